@@ -1,0 +1,13 @@
+-- A choice by a test, by which definitions go by cases.
+-- Assumes nothing.
+use mathlib.Core.Path.{_≡_, refl}
+use mathlib.Core.Bool.{Bool, true, false}
+
+abbrev pub pick : {A : Type 0} → Bool → A → A → A
+pick true a b = a
+pick false a b = b
+
+-- What holds of each of the two, each under its test, holds of the pick.
+pub pick-elim : {A : Type 0} (P : A → Type 0) (b : Bool) (x y : A) → (b ≡ true → P x) → (b ≡ false → P y) → P (pick b x y)
+pick-elim P true x y f g = f refl
+pick-elim P false x y f g = g refl

@@ -1,0 +1,5 @@
+pub mod Choice
+pub mod Sides
+pub mod Rounding
+pub mod Buckets
+pub mod Cuts
