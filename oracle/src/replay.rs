@@ -84,82 +84,114 @@ fn options(words: &[u32]) -> AllocatorOptions {
     }
 }
 
+/// A search that the list has written out and whose allocate has not come yet: the rounded request, the crate's lists
+/// after the search, and how many of them have been read.
+struct Searched {
+    rounded: Size,
+    lists: [Vec<u32>; 3],
+    read: usize,
+}
+
+/// The atlas that makes the calls, and the tables that are held against it.
+struct Reader {
+    atlas: AtlasAllocator,
+    tables: Tables,
+    searched: Option<Searched>,
+    open: bool,
+    calls: usize,
+}
+
 /// Reads a whole list and gives the number of calls on it.
 pub fn read(text: &str) -> usize {
     assert!(text.is_ascii() && text.ends_with('\n'));
-    let mut calls = 0;
-    let mut atlas = AtlasAllocator::new(size2(1, 1));
-    let mut searched = atlas.clone();
-    let mut tables = Tables::new();
-    let mut open = false;
+    let atlas = AtlasAllocator::new(size2(1, 1));
+    let mut reader = Reader { atlas, tables: Tables::new(), searched: None, open: false, calls: 0 };
     for line in text.lines() {
         let words = numbers(line);
-        let (kind, words) = (words[0], &words[1..]);
-        if tables.apply(kind, words) {
-            assert!(open, "a change outside a call");
-            continue;
+        reader.line(words[0], &words[1..]);
+    }
+    assert!(!reader.open && reader.searched.is_none(), "the last call is closed");
+    reader.calls
+}
+
+impl Reader {
+    fn line(&mut self, kind: u32, words: &[u32]) {
+        if self.tables.apply(kind, words) {
+            assert!(self.open, "a change outside a call");
+            return;
         }
-        assert_eq!(open, kind == tag::CLOSE, "a call is closed before the next line");
-        open = (tag::START..=tag::RESET).contains(&kind);
+        assert_eq!(self.open, kind == tag::CLOSE, "a call is closed before the next line");
+        self.open = (tag::START..=tag::RESET).contains(&kind);
+        assert!(
+            self.searched.is_none() || [tag::SEARCHED_LIST, tag::ALLOCATE].contains(&kind),
+            "a search stands alone"
+        );
         match kind {
             tag::START => {
                 premises::setup(size(words), &options(words));
-                atlas = AtlasAllocator::with_options(size(words), &options(words));
-                tables = Tables::new();
+                self.atlas = AtlasAllocator::with_options(size(words), &options(words));
+                self.tables = Tables::new();
             }
-            tag::ALLOCATE => allocate(&mut atlas, words),
+            tag::ALLOCATE => self.allocate(words),
             tag::DEALLOCATE => {
-                premises::live(&view::state(&atlas), words[0]);
-                atlas.deallocate(AllocId::deserialize(words[0]));
+                premises::live(&view::state(&self.atlas), words[0]);
+                self.atlas.deallocate(AllocId::deserialize(words[0]));
             }
             tag::GROW => {
-                premises::growth(&view::state(&atlas), size(words));
-                atlas.grow(size(words));
+                premises::growth(&view::state(&self.atlas), size(words));
+                self.atlas.grow(size(words));
             }
-            tag::CLEAR => atlas.clear(),
+            tag::CLEAR => self.atlas.clear(),
             tag::RESET => {
                 premises::setup(size(words), &options(words));
-                atlas.reset(size(words), &options(words));
+                self.atlas.reset(size(words), &options(words));
             }
-            tag::SEARCH => {
-                searched = atlas.clone();
-                assert_eq!(steps::find_suitable_rect(&mut searched, size(words)), words[2]);
-            }
+            tag::SEARCH => self.search(size(words), words[2]),
             tag::SEARCHED_LIST => {
-                let entries = &view::state(&searched).lists[words[0] as usize];
-                assert_eq!(words[1] as usize, entries.len());
+                let searched = self.searched.as_mut().expect("a list after a search");
+                let entries = &searched.lists[searched.read];
+                assert_eq!(words[..2], [searched.read as u32, entries.len() as u32]);
                 assert_eq!(words[2..], entries[..]);
+                searched.read += 1;
             }
             tag::CLOSE => {
-                let state = view::state(&atlas);
+                let state = view::state(&self.atlas);
                 premises::room(&state);
-                tables.assert_hold(&state);
-                assert_eq!(words, [u32::from(atlas.is_empty())]);
-                calls += 1;
+                self.tables.assert_hold(&state);
+                assert_eq!(words, [u32::from(self.atlas.is_empty())]);
+                self.calls += 1;
             }
             _ => leaf(kind, words),
         }
     }
-    assert!(!open, "the last call is closed");
-    calls
-}
 
-/// An allocate gives the answer on the list.
-fn allocate(atlas: &mut AtlasAllocator, words: &[u32]) {
-    let request = size(words);
-    if !request.is_empty() {
-        let before = view::state(atlas);
-        let rounded = premises::rounded(&before, request);
-        premises::areas(&before, steps::find_suitable_rect(&mut atlas.clone(), rounded), rounded);
+    /// A search chooses the slot on the list; the atlas itself stays as it is.
+    fn search(&mut self, rounded: Size, chosen: u32) {
+        let mut tried = self.atlas.clone();
+        assert_eq!(steps::find_suitable_rect(&mut tried, rounded), chosen);
+        self.searched = Some(Searched { rounded, lists: view::state(&tried).lists, read: 0 });
     }
-    match atlas.allocate(request) {
-        Some(allocation) => {
-            assert_eq!(words[2..4], [answer::DONE, allocation.id.serialize()]);
-            assert_eq!(rectangle(&words[4..]), allocation.rectangle);
+
+    /// An allocate gives the answer on the list, and follows its own search.
+    fn allocate(&mut self, words: &[u32]) {
+        let request = size(words);
+        if !request.is_empty() {
+            let before = view::state(&self.atlas);
+            let rounded = premises::rounded(&before, request);
+            premises::areas(&before, steps::find_suitable_rect(&mut self.atlas.clone(), rounded), rounded);
+            if let Some(searched) = self.searched.take() {
+                assert_eq!((searched.rounded, searched.read), (rounded, 3));
+            }
         }
-        None => {
-            let refusal = if request.is_empty() { answer::SIDE } else { answer::NO_SPACE };
-            assert_eq!(words[2..], [refusal, 0, 0, 0, 0, 0]);
+        match self.atlas.allocate(request) {
+            Some(allocation) => {
+                assert_eq!(words[2..4], [answer::DONE, allocation.id.serialize()]);
+                assert_eq!(words[4..], corners(&allocation.rectangle));
+            }
+            None => {
+                let refusal = if request.is_empty() { answer::SIDE } else { answer::NO_SPACE };
+                assert_eq!(words[2..], [refusal, 0, 0, 0, 0, 0]);
+            }
         }
     }
 }
