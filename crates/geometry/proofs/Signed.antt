@@ -10,7 +10,7 @@ use lib.Signed.{ltZ, nonNeg, mag}
 use lib.Dec.{T}
 use borrow.Author.Tests.{ltb-true}
 use mir.Syntax.{w32}
-use mir.Val.{Fits, SFits, toZ, ofZ}
+use mir.Val.{Fits, toZ, ofZ}
 use mir.Facts.{toZ-ofZ, fits-natAbs}
 use Rattle.geometry.specs.Sides.{natural}
 

@@ -2,10 +2,12 @@
 -- arrived.
 -- Assumes nothing.
 use mathlib.Core.Path.{_≡_, sym, _∙_}
-use mathlib.Core.Bool.{Bool}
+use mathlib.Core.Bool.{Bool, _&&_, not}
+use lib.Signed.{leZ}
 use lib.Dec.{eqb}
 use borrow.Author.Needs.{needs}
 use borrow.Author.Tests.{not-true, not-false, eq-eqb, ne-eqb}
+use Rattle.geometry.specs.declared.AllocatorOptions.{AllocatorOptions}
 use Rattle.geometry.specs.Sides.{natural, sheetSide, validSetup}
 use Rattle.geometry.proofs.Signed.{read-back, test-read}
 use Rattle.geometry.proofs.is_valid.Statement.{statement}
@@ -33,6 +35,19 @@ module _ {b : Bool} where
       eqb (natural (c .before .before .before .before .before .before .before .before .before .before .before .before .before .before .args .options .alignment .height)) 0 ≡ b
   align-height c h = test-read _ (c .before .struct-told4 .given .1 .0 .1) (c .natural4 .ensures .0) (λ n. eqb n 0) h
 
+-- What is to be seen of the options, where both sheet sides are in range.
+abbrev validOptions : AllocatorOptions → Bool
+validOptions options =
+    not (eqb (natural (options .alignment .width)) 0) &&
+    (not (eqb (natural (options .alignment .height)) 0) && leZ (options .small) (options .large))
+
+sheet-passed : (c : tie.Else2) → let a = c .before .before .before .before .before .before .before .before .before .args in
+    validSetup (a .sheet) (a .options) ≡ validOptions (a .options)
+unfolding validSetup
+sheet-passed c =
+    let w = c .before .before .before .before in
+    rw (sheet-width (w .before) (not-false _ (w .if1 .left)), sheet-height (c .before) (not-false _ (c .if2 .left)))
+
 natural-requires : tie.Need-natural-requires
 natural-requires c κs = search needs
 
@@ -59,38 +74,31 @@ natural-requires-3 : tie.Need-natural-requires-3
 natural-requires-3 c κs = search needs
 
 returns-3 : tie.Need-returns-3
-unfolding validSetup
-returns-3 c =
-    let h = c .before .before .before in
-    let w = h .before .before .before .before in
-    rw
-    (sheet-width (w .before) (not-false _ (w .if1 .left)), sheet-height (h .before) (not-false _ (h .if2 .left)),
-    align-width (c .before) (eq-eqb _ _ (c .if3 .taken)))
+returns-3 c = rw (sheet-passed (c .before .before .before), align-width (c .before) (eq-eqb _ _ (c .if3 .taken)))
 
 natural-requires-4 : tie.Need-natural-requires-4
 natural-requires-4 c κs = search needs
 
 returns-4 : tie.Need-returns-4
-unfolding validSetup
 returns-4 c =
     let a = c .before .before .before in
-    let h = a .before .before .before in
-    let w = h .before .before .before .before in
-    rw
-    (sheet-width (w .before) (not-false _ (w .if1 .left)), sheet-height (h .before) (not-false _ (h .if2 .left)),
-    align-width (a .before) (ne-eqb _ _ (a .if3 .left)), align-height (c .before) (eq-eqb _ _ (c .if4 .taken)))
+    rw (
+      sheet-passed (a .before .before .before),
+      align-width (a .before) (ne-eqb _ _ (a .if3 .left)),
+      align-height (c .before) (eq-eqb _ _ (c .if4 .taken)),
+    )
 
 returns-5 : tie.Need-returns-5
-unfolding validSetup
 returns-5 c =
     let o = c .before .before in
     let a = o .before .before .before in
-    let h = a .before .before .before in
-    let w = h .before .before .before .before in
-    rw
-    (sheet-width (w .before) (not-false _ (w .if1 .left)), sheet-height (h .before) (not-false _ (h .if2 .left)),
-    align-width (a .before) (ne-eqb _ _ (a .if3 .left)), align-height (o .before) (ne-eqb _ _ (o .if4 .left)),
-    read-back _ (c .struct-told5 .given .1 .0 .1), read-back _ (c .struct-told5 .given .1 .1 .0 .1))
+    rw (
+      sheet-passed (a .before .before .before),
+      align-width (a .before) (ne-eqb _ _ (a .if3 .left)),
+      align-height (o .before) (ne-eqb _ _ (o .if4 .left)),
+      read-back _ (c .struct-told5 .given .1 .0 .1),
+      read-back _ (c .struct-told5 .given .1 .1 .0 .1),
+    )
 
 pub is-valid-spec : {M : Type 1} → statement M
 is-valid-spec =

@@ -1,30 +1,38 @@
+-- `geometry::setup_of` meets its contract: its parts are what each call ensures, and a threshold is read back as it arrived.
+-- Assumes nothing.
 use borrow.Author.Needs.{needs}
+use Rattle.geometry.specs.Sides.{setupOf}
+use Rattle.geometry.proofs.Signed.{natural-read}
 use Rattle.geometry.proofs.setup_of.Statement.{statement}
 use Rattle.geometry.proofs.setup_of.Tie as tie
-use Rattle.geometry.proofs.setup_of.Reads as reads
-use Rattle.geometry.proofs.setup_of.Lts as lts
-use Rattle.geometry.proofs.extent_of.Reads as extent-of-reads
-use Rattle.geometry.proofs.natural.Reads as natural-reads
 
--- src/lib.rt:119:16
 extent-of-requires : tie.Need-extent-of-requires
 extent-of-requires c κs = search needs
 
--- src/lib.rt:120:20
 extent-of-requires-2 : tie.Need-extent-of-requires-2
 extent-of-requires-2 c κs = search needs
 
--- src/lib.rt:121:16
 natural-requires : tie.Need-natural-requires
 natural-requires c κs = search needs
 
--- src/lib.rt:122:16
 natural-requires-2 : tie.Need-natural-requires-2
 natural-requires-2 c κs = search needs
 
--- src/lib.rt:114:1
 returns : tie.Need-returns
-returns c = ?
+unfolding setupOf
+returns c =
+    let s = c .before .before in
+    let a = s .before .before in
+    let options = a .before .before .before .args .options in (
+      rw (
+        natural-read (options .large) (c .before .struct-told2 .given .1 .1 .0 .1) (c .natural2 .ensures .0),
+        natural-read (options .small) (s .before .struct-told .given .1 .0 .1) (s .natural .ensures .0),
+        a .extent-of2 .ensures .0,
+        a .before .extent-of .ensures .0,
+      ),
+      a .extent-of2 .ensures .1,
+      a .extent-of2 .ensures .2,
+    )
 
 pub setup-of-spec : {M : Type 1} → statement M
 setup-of-spec =
