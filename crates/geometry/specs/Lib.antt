@@ -10,4 +10,5 @@ pub mod RoundingLaws
 pub mod RequestLaws
 pub mod BucketLaws
 pub mod MeasureLaws
+pub mod PieceLaws
 pub mod CutLaws

@@ -58,8 +58,8 @@ module _ (s : Setup) (size : Size) where
   positive-outcome p q =
       pick-elim (λ r. Outcome s size (bothRounded r (rounded (s .alignment .height) (tall size)))) _ (To _) Over
       (λ h.
-        pick-elim (λ r. Outcome s size (bothRounded (To (wideUp s size)) r)) _ (To _) Over
-        (λ k. accepted p q (leb-true _ _ h) (leb-true _ _ k)) (λ k. too-large p q (inr (leb-false _ _ k))))
+      pick-elim (λ r. Outcome s size (bothRounded (To (wideUp s size)) r)) _ (To _) Over
+      (λ k. accepted p q (leb-true _ _ h) (leb-true _ _ k)) (λ k. too-large p q (inr (leb-false _ _ k))))
       (λ h. too-large p q (inl (leb-false _ _ h)))
 
   -- Every request has its outcome.
@@ -69,8 +69,8 @@ module _ (s : Setup) (size : Size) where
       pick-elim (Outcome s size) _ NotPositive _
       (λ h. not-positive (⊎-elim (λ e. inl (eqb-true _ _ e)) (λ e. inr (eqb-true _ _ e)) (or-true-one _ _ h)))
       (λ h.
-        let k = or-false-each _ _ h in
-        positive-outcome (above-zero _ .0 (k .0)) (above-zero _ .0 (k .1)))
+      let k = or-false-each _ _ h in
+      positive-outcome (above-zero _ .0 (k .0)) (above-zero _ .0 (k .1)))
 
   -- And no other: two outcomes of a request are the same.
   pub outcome-unique : {r t : Request} → Outcome s size r → Outcome s size t → r ≡ t

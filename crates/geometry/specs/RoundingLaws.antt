@@ -38,6 +38,6 @@ module _ {a : ℕ} (p : 0 < a) where
       let e = div-add-mod' r a in
       let f = div-add-mod' m a in
       let below : r / a < m / a + 1 =
-        lt-of-mul-lt-mul-right a
-        (rw (add-mul (m / a) 1 a, one-mul a) (omega (arith, roundUp-multiple s, roundUp-least s))) in
+      lt-of-mul-lt-mul-right a
+      (rw (add-mul (m / a) 1 a, one-mul a) (omega (arith, roundUp-multiple s, roundUp-least s))) in
       omega (arith, roundUp-multiple s, mul-le-mul-right {m = r / a} {n = m / a} a (omega arith))

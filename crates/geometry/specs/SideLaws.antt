@@ -36,9 +36,10 @@ natural-keeps-order (negsuc m) b h = omega arith
 -- A sheet side is 1 to the largest.
 pub sheet-side : (n : ℕ) → (sheetSide n ≡ true) ↔ ((0 < n) × (n ≤ largestSide))
 unfolding sheetSide
-sheet-side n =
-    (λ h. let k = and-true-each _ _ h in (above-zero n .0 (not-true _ (k .0)), leb-true n largestSide (k .1)),
-    λ h. rw (above-zero n .1 (h .0), le-leb n largestSide (h .1)))
+sheet-side n = (
+  λ h. let k = and-true-each _ _ h in (above-zero n .0 (not-true _ (k .0)), leb-true n largestSide (k .1)),
+  λ h. rw (above-zero n .1 (h .0), le-leb n largestSide (h .1)),
+)
 
 -- The numbers of a valid setup, whose alignment is in the range of an i32 as `setup_of` says.
 pub valid-setup : (sheet : Size) (options : AllocatorOptions) → validSetup sheet options ≡ true →
