@@ -1,6 +1,5 @@
 -- Rectangles, and the cut of a chosen rectangle W×H for a request w×h at its min corner.
 -- Assumes nothing.
-use mathlib.Core.Path.{_≡_}
 use mathlib.Core.Bool.{Bool, _&&_, _||_}
 use Prim.Native.Nat.{ℕ, _+_, _-_, _*_, _≤_}
 use lib.Dec.{eqb, leb, ltb}

@@ -1,13 +1,12 @@
 -- Rounding: up to a multiple of the alignment, checked.
 -- Assumes nothing.
-use mathlib.Core.Bool.{Bool, true, false, _||_}
+use mathlib.Core.Bool.{_||_}
 use Prim.Native.Nat.{ℕ, _+_, _-_, _%_}
 use lib.Dec.{eqb, leb}
 use Rattle.geometry.specs.Choice.{pick}
 use Rattle.geometry.specs.Sides.{natural}
 use Rattle.geometry.specs.declared.Size.{Size}
 use Rattle.geometry.specs.declared.Setup.{Setup}
-use Rattle.geometry.specs.declared.Extent.{Extent}
 use Rattle.geometry.specs.declared.Rounded.{Rounded}
 use Rattle.geometry.specs.declared.Rounded.the-variants.{To, Over}
 use Rattle.geometry.specs.declared.Request.{Request}

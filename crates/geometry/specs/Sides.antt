@@ -1,6 +1,6 @@
 -- Sides, alignments and thresholds as they arrive, and which setups are valid.
 -- Assumes nothing.
-use mathlib.Core.Bool.{Bool, true, false, _&&_, not}
+use mathlib.Core.Bool.{Bool, _&&_, not}
 use Prim.Native.Nat.{ℕ, _≤_, _<_, _^_}
 use lib.IntN.{ℤ, pos, negsuc}
 use lib.Signed.{leZ}
