@@ -1,0 +1,111 @@
+// The head, and the steps that take a slot into use and out of it.
+use geometry::AllocatorOptions;
+use geometry::Size;
+use lists::Lengths;
+use slots::AllocIndex;
+use slots::NodeKind;
+ghost use mathlib.Core.Path.{_≡_};
+ghost use Prim.Native.Nat.{_*_, _≤_};
+ghost use lib.ListN.{length};
+ghost use Rattle.slots.specs.Slots.{HasSlot};
+ghost use Rattle.steps.specs.Spares.{stepped, fresh, newNode, freed, markUnused, unusedAt, unusedBelow, spareSlots, HasSpare};
+
+// What is kept beside the tables: the sheet and its options, the first slot of the top chain, the first
+// spare slot, how many slots there are, and the lengths of the free lists.
+pub struct Head {
+    pub sheet: Size,
+    pub options: AllocatorOptions,
+    pub root: AllocIndex,
+    pub spare: AllocIndex,
+    pub count: u32,
+    pub lengths: Lengths,
+}
+
+// A slot taken into use, with the head after it.
+pub struct Taken {
+    pub slot: AllocIndex,
+    pub head: Head,
+}
+
+// The generation after this one: a byte that wraps.
+fn next_generation(g: u8) -> u8
+    ensures { λ r. ⌜ r ≡ stepped g ⌝ }
+{
+    std::num::wrapping_add_u8(g, 1)
+}
+
+// Takes a slot into use: the first spare one, its generation stepped, else slot n with generation 0.
+pub fn new_node(words: &[u32], generations: &mut [u8], head: Head) -> Taken
+    requires { ⌜ HasSpare (now words) (now generations) head ⌝ }
+    ensures { λ r. ⌜ fresh (r .slot) (r .head) (now (generations .exit)) ≡ newNode (now (words .entry)) (now (generations .entry)) head ⌝ }
+{
+    let first = head.spare;
+    let n = head.count;
+    let mut after = head;
+    if first.0 < n {
+        let node = slots::node_at(words, first);
+        let next = node.next;
+        let at = first.0 as usize;
+        generations[at] = next_generation(generations[at]);
+        after.spare = next;
+        return Taken {
+            slot: first,
+            head: after,
+        };
+    }
+    let at = n as usize;
+    generations[at] = 0;
+    after.count = n + 1;
+    Taken {
+        slot: AllocIndex(n),
+        head: after,
+    }
+}
+
+// Slot i becomes spare: its kind and next are written, and it is the chain's head.
+pub fn mark_node_unused(words: &mut [u32], head: Head, i: AllocIndex) -> Head
+    requires { ⌜ HasSlot (now words) i ⌝ }
+    ensures { λ r. ⌜ freed r (now (words .exit)) ≡ markUnused (now (words .entry)) head i ⌝ }
+{
+    let spare = head.spare;
+    slots::set_kind(words, i, NodeKind::Unused);
+    slots::set_next(words, i, spare);
+    let mut after = head;
+    after.spare = i;
+    after
+}
+
+// 1 where slot i is Unused, else 0.
+fn unused_at(words: &[u32], i: AllocIndex) -> u32
+    requires { ⌜ HasSlot (now words) i ⌝ }
+    ensures { λ r. ⌜ (r ≡ unusedAt (now (words .entry)) (i .0)) × (r ≤ 1) ⌝ }
+{
+    let node = slots::node_at(words, i);
+    let kind = node.kind;
+    if slots::same_kind(kind, NodeKind::Unused) {
+        return 1;
+    }
+    0
+}
+
+// How many of the first n slots are Unused.
+pub fn unused_below(words: &[u32], n: u32) -> u32
+    requires { ⌜ n * 8 ≤ length (now words) ⌝ }
+    ensures { λ r. ⌜ (r ≡ unusedBelow (now (words .entry)) n) × (r ≤ n) ⌝ }
+{
+    let mut unused = 0;
+    let mut i = 0;
+    while i < n {
+        unused += unused_at(words, AllocIndex(i));
+        i += 1;
+    }
+    unused
+}
+
+// How many slots can be taken into use, of total in the table: those past n, and the Unused ones.
+pub fn spare_slots(words: &[u32], total: u32, n: u32) -> u32
+    requires { ⌜ (n ≤ total) × (total * 8 ≤ length (now words)) ⌝ }
+    ensures { λ r. ⌜ r ≡ spareSlots (now (words .entry)) total n ⌝ }
+{
+    total - n + unused_below(words, n)
+}
