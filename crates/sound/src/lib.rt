@@ -1,0 +1,2 @@
+// What sound tables are: specs/Sound.antt. There is no code here.
+pub fn nothing() {}
