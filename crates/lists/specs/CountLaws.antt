@@ -2,7 +2,7 @@
 -- Assumes nothing.
 use mathlib.Core.Path.{_≡_, refl, sym, _∙_}
 use mathlib.Core.Bool.{Bool, true, false}
-use Prim.Native.Nat.{ℕ, zero, suc, _+_, _≤_, _<_}
+use Prim.Native.Nat.{ℕ, zero, suc, _+_, _-_, _≤_, _<_}
 use native.Mathlib.Omega.{arith}
 use native.Mathlib.Decide.{ℕ-discrete}
 use Rattle.lists.specs.Counts.{bit, count}
@@ -16,6 +16,20 @@ pub count-all : (n : ℕ) → count (λ _. true) n ≡ n
 unfolding count
 count-all zero = refl
 count-all (suc n) = rw (count-all n) (omega arith)
+
+-- No number passes.
+pub count-none : (p : ℕ → Bool) (n : ℕ) → ((j : ℕ) → j < n → p j ≡ false) → count p n ≡ 0
+unfolding count
+count-none p zero f = refl
+count-none p (suc n) f = rw (f n (omega arith), count-none p n (λ j h. f j (omega arith)))
+
+-- The last number below n is counted by itself.
+pub count-last : (p : ℕ → Bool) (n : ℕ) → 0 < n → count p n ≡ bit (p (n - 1)) + count p (n - 1)
+unfolding count
+count-last p n h = go (n - 1) (omega arith)
+  where
+    go : (k : ℕ) → n ≡ suc k → count p n ≡ bit (p k) + count p k
+    go k e = rw e
 
 module _ (p q : ℕ → Bool) where
   -- Tests that agree below n count the same.

@@ -8,4 +8,6 @@ pub mod SweepLaws
 pub mod RoomLaws
 pub mod ListLaws
 pub mod PushLaws
+pub mod OccurrenceLaws
 pub mod FreeListLaws
+pub mod ForgetLaws

@@ -1,7 +1,7 @@
 -- A sweep makes room: it keeps different slots other than the pushed one, so fewer than there are slots.
 -- Assumes nothing.
 use mathlib.Core.Path.{_≡_, refl, ap, sym, _∙_}
-use mathlib.Core.Bool.{Bool, true, false, _&&_, _||_, not}
+use mathlib.Core.Bool.{Bool, true, false, _&&_, _||_, not, and-false}
 use mathlib.Core.List.{List, [], _∷_, _++_, append-nil}
 use Prim.Native.Nat.{ℕ, zero, suc, _+_, _≤_, _<_}
 use native.Mathlib.Omega.{arith}
@@ -50,10 +50,6 @@ module _ (w : List ℕ) (v : ℕ) (t : List ℕ) (n : ℕ) where
           rw (e, length-append)
           (omega (arith, r, count-one-more (seen v t i) (seen v t (suc i)) (getD t i 0) n (h i (omega arith)) (seen-on v t i) (simp (g .1)) (simp (eq-eqb (getD t i 0) (getD t i 0) refl, g .0))))
       go false e r = rw (e, append-nil) (omega (arith, r, count-more (seen v t i) (seen v t (suc i)) n (seen-on v t i)))
-
-and-false : (a : Bool) → a && false ≡ false
-and-false true = refl
-and-false false = refl
 
 -- THE LAW: after a sweep for a push the list is shorter than its table.
 pub room-after-sweep : (w : List ℕ) (v : ℕ) (b : Bag) → Pushable w v b → swept w v b .len < length (b .table)

@@ -3,7 +3,7 @@
 use borrow.Author.Needs.{needs}
 use Rattle.lists.specs.FreeLists.{forgotten}
 use Rattle.lists.specs.FirstLaws.{found-within}
-use Rattle.lists.specs.FreeListLaws.{forget-here, forget-on, forget-none}
+use Rattle.lists.specs.ForgetLaws.{forget-here, forget-on, forget-none}
 use Rattle.lists.proofs.forget.Statement.{statement}
 use Rattle.lists.proofs.forget.Tie as tie
 

@@ -18,7 +18,7 @@ sweep-requires : tie.Need-sweep-requires
 sweep-requires c κs = search needs
 
 append-requires-2 : tie.Need-append-requires-2
-append-requires-2 c κs = room-swept _ _ _ _ (c .before .before .before .before .before .before .before .before .pre) (c .before .before .before .sweep .ensures)
+append-requires-2 c κs = room-swept _ _ _ (c .before .before .before .before .before .before .before .before .pre) _ (c .before .before .before .sweep .ensures)
 
 same-length-2 : tie.Need-same-length-2
 same-length-2 c = search needs
