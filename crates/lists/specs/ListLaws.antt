@@ -1,14 +1,14 @@
 -- What the steps on a list keep: the table's length, and what holds of every entry.
 -- Assumes nothing.
-use mathlib.Core.Path.{_≡_, refl, ap, sym, _∙_, subst}
-use mathlib.Core.Bool.{Bool, true, false}
+use mathlib.Core.Path.{_≡_}
+use mathlib.Core.Bool.{true}
 use mathlib.Core.List.{List, [], _∷_, _++_, append-nil}
 use Prim.Native.Nat.{ℕ, zero, suc, _+_, _-_, _≤_, _<_}
 use native.Mathlib.Omega.{arith}
 use native.Mathlib.Decide.{ℕ-discrete, decLt}
 use lib.ListN.{length, getD, drop, length-set, length-append, length-drop, List·getD-append}
 use lib.Seq.{getD-set-same, getD-set-other, getD-at}
-use Rattle.geometry.specs.Choice.{pick, pick-elim}
+use Rattle.geometry.specs.Choice.{pick-elim}
 use Rattle.slots.specs.Slots.{slot, HasSlot}
 use Rattle.lists.specs.Lists.{Bag, appended, removed, keeps, keepers, swept, Each, Entries}
 

@@ -10,8 +10,8 @@ use native.Mathlib.Numerals.{add-one}
 use lib.Dec.{eqb}
 use lib.ListN.{length, getD, drop, length-append, List·getD-append}
 use lib.Seq.{getD-set-same, getD-set-other, getD-append-seam}
-use borrow.Author.Tests.{eq-eqb, ne-eqb, eqb-true}
-use Rattle.geometry.specs.Choice.{pick, pick-elim}
+use borrow.Author.Tests.{eq-eqb, ne-eqb}
+use Rattle.geometry.specs.Choice.{pick}
 use Rattle.lists.specs.Lists.{Bag, bag, appended, removed, occurs, freeEntry, keeps, keepers, swept, pushed, Pushable}
 use Rattle.lists.specs.Counts.{bit, count, holds, occurrences}
 use Rattle.lists.specs.CountLaws.{count-last, count-same, count-change}

@@ -1,14 +1,14 @@
 -- A sweep makes room: it keeps different slots other than the pushed one, so fewer than there are slots.
 -- Assumes nothing.
-use mathlib.Core.Path.{_≡_, refl, ap, sym, _∙_}
+use mathlib.Core.Path.{_≡_, refl}
 use mathlib.Core.Bool.{Bool, true, false, _&&_, _||_, not, and-false}
-use mathlib.Core.List.{List, [], _∷_, _++_, append-nil}
-use Prim.Native.Nat.{ℕ, zero, suc, _+_, _≤_, _<_}
+use mathlib.Core.List.{List, append-nil}
+use Prim.Native.Nat.{ℕ, zero, suc, _≤_, _<_}
 use native.Mathlib.Omega.{arith}
 use lib.Dec.{eqb}
 use lib.ListN.{length, getD, length-append}
 use borrow.Author.Tests.{eq-eqb}
-use Rattle.lists.specs.Lists.{Bag, bag, freeEntry, occurs, keeps, keepers, swept, Pushable}
+use Rattle.lists.specs.Lists.{Bag, freeEntry, occurs, keeps, keepers, swept, Pushable}
 use Rattle.lists.specs.Counts.{count}
 use Rattle.lists.specs.CountLaws.{count-all, count-more, count-one-more}
 

@@ -1,8 +1,7 @@
 -- The sweep as it runs is the sweep as it is defined.
 -- Assumes nothing.
-use mathlib.Core.Path.{_≡_, refl, sym, ap, subst, _∙_}
+use mathlib.Core.Path.{_≡_, refl, sym, _∙_}
 use mathlib.Core.Bool.{Bool, true, false, not, _||_}
-use mathlib.Core.Logic.{⊎-elim}
 use mathlib.Core.List.{List, [], _∷_, _++_, append-nil}
 use Prim.Native.Nat.{ℕ, zero, suc, _+_, _≤_, _<_}
 use native.Mathlib.Omega.{arith}
@@ -13,8 +12,7 @@ use lib.Seq.{getD-set-same, getD-set-other, drop-cons, set-at, append-snoc}
 use lib.Dec.{eqb}
 use borrow.Author.Tests.{eq-eqb, ne-eqb}
 use Rattle.geometry.specs.Choice.{pick, pick-elim}
-use Rattle.slots.specs.Slots.{slot, HasSlot}
-use Rattle.lists.specs.Lists.{Bag, bag, occurs, keeps, keepers, swept, Entries}
+use Rattle.lists.specs.Lists.{bag, occurs, keeps, keepers, swept, Entries}
 use Rattle.lists.specs.Sweeps.{Sweeping, sweeping, isKept, Sweepable, sweepStep, sweepTo}
 
 -- What a sweep leaves after i entries: the tables' lengths, and the entries still ahead. At most i are kept.

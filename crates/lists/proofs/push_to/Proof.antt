@@ -1,9 +1,6 @@
 -- `lists::push_to` meets its contract: in each arm the bucket is known, and its list is pushed to.
 -- Assumes nothing.
 use borrow.Author.Needs.{needs}
-use mathlib.Core.Path.{ap}
-use Rattle.lists.specs.FreeLists.{lists, withList}
-use Rattle.geometry.specs.declared.Bucket.the-variants.{Small, Medium, Large}
 use Rattle.lists.proofs.push_to.Statement.{statement}
 use Rattle.lists.proofs.push_to.Tie as tie
 

@@ -1,8 +1,6 @@
 -- `lists::remove_from` meets its contract: in each arm the bucket is known, and its list is removed from.
 -- Assumes nothing.
 use borrow.Author.Needs.{needs}
-use mathlib.Core.Path.{ap}
-use Rattle.lists.specs.FreeLists.{lists, withList}
 use Rattle.geometry.specs.declared.Bucket.the-variants.{Small, Medium, Large}
 use Rattle.lists.proofs.remove_from.Statement.{statement}
 use Rattle.lists.proofs.remove_from.Tie as tie
