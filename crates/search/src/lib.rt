@@ -311,7 +311,12 @@ pub fn find_suitable_rect(
     ensures { λ r. ⌜ searched (r .chosen) (lists (r .lengths) (now (small .exit)) (now (medium .exit)) (now (large .exit)))
         ≡ findSuitable (now (words .entry)) setup request (lists lengths (now (small .entry)) (now (medium .entry)) (now (large .entry))) ⌝ }
 {
-    let ideal = geometry::free_list_for_size(setup.small, setup.large, request.width, request.height);
+    let ideal = geometry::free_list_for_size(
+        setup.small,
+        setup.large,
+        request.width,
+        request.height,
+    );
     let q = Query {
         width: request.width,
         height: request.height,
