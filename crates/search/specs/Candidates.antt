@@ -1,30 +1,23 @@
 -- What a scan knows of the entries behind it: its candidate suits, and where it has none, no entry does.
 -- Assumes nothing.
 use mathlib.Core.Path.{_≡_, refl, subst}
-use mathlib.Core.Bool.{true}
 use mathlib.Core.List.{List}
 use mathlib.Core.Logic.{⊎-elim}
 use Prim.Native.Nat.{ℕ, _+_, _≤_, _<_}
 use native.Mathlib.Omega.{arith}
 use lib.ListN.{length, getD, set, length-set}
 use lib.Seq.{getD-set-other}
-use Rattle.geometry.specs.Choice.{pick-elim}
-use Rattle.geometry.specs.Cuts.{widthOf, heightOf}
-use Rattle.slots.specs.Slots.{slot, nodeAt}
-use Rattle.slots.specs.SlotLaws.{same-kind-equal}
-use Rattle.lists.specs.Lists.{freeEntry}
 use Rattle.search.specs.declared.Best.{Best}
 use Rattle.search.specs.declared.Best.the-variants.{At, Nothing}
 use Rattle.search.specs.declared.Query.{Query}
-use Rattle.search.specs.declared.Scan.{Scan}
-use Rattle.search.specs.Scans.{Scanned, scanned, entryAt, look, first, scanAll}
+use Rattle.search.specs.Scans.{Scanned, scanned, look, first, scanAll}
 use Rattle.search.specs.Search.{BestWithin}
 use Rattle.search.specs.Suits.{Suits}
 use Rattle.search.specs.Occurrences.{same-or-not}
-use Rattle.search.specs.ScanLaws.{weighed-cases, looking-keeps}
+use Rattle.search.specs.ScanLaws.{look-cases, looking-keeps}
 
 -- What is known of the places before `at`: the candidate's is one of them and suits; with no candidate, none suits.
-abbrev SoFar : List ℕ → Query → List ℕ → ℕ → Best → Type 0
+abbrev pub SoFar : List ℕ → Query → List ℕ → ℕ → Best → Type 0
 SoFar w q t at (At k) = (k < at) × Suits w (q .width) (q .height) (getD t k 0)
 SoFar w q t at Nothing = (k : ℕ) → k < at → Suits w (q .width) (q .height) (getD t k 0) → ⊥
 
@@ -46,26 +39,19 @@ module _ (w : List ℕ) (q : Query) (t : List ℕ) (at : ℕ) where
   so-far-set (At k) v f = (f .0, rw (getD-set-other t at k v 0 (λ e. omega (arith, f .0))) (f .1))
   so-far-set Nothing v f = λ k h s. f k h (rw (getD-set-other t at k v 0 (λ e. omega arith)) at s)
 
-free-suits : (w : List ℕ) (q : Query) (x : ℕ) → freeEntry w x ≡ true → q .width ≤ widthOf (nodeAt w (slot x) .rect)
-    → q .height ≤ heightOf (nodeAt w (slot x) .rect) → Suits w (q .width) (q .height) x
-free-suits w q x f a b = record { free = same-kind-equal _ _ f; wide = a; tall = b }
-
 -- A look keeps what is known.
 look-scans : (w : List ℕ) (q : Query) (o : Scanned) → o .scan .at < o .scan .len → Scanning w q o → Scanning w q (look w q o)
-unfolding look
 look-scans w q o h s =
-    pick-elim (Scanning w q) (freeEntry w (entryAt o)) _ _
-    (λ f.
-    let r = nodeAt w (slot (entryAt o)) .rect in
-    weighed-cases (λ (c : Scan). Scanning w q (scanned c (o .table))) (o .scan) r q
-    (λ n. record { within = s .within; placed = omega arith; so-far = so-far-passed w q (o .table) (o .scan .at) (o .scan .best) (λ z. n (z .wide) (z .tall)) (s .so-far) })
-    (λ a b. record { within = s .within; placed = omega arith; so-far = (h, free-suits w q (entryAt o) f a b) })
-    (λ a b. record { within = s .within; placed = omega arith; so-far = (omega arith, free-suits w q (entryAt o) f a b) }))
+    let f = s .so-far in
+    look-cases w q o (look w q o) h refl (Scanning w q)
+    (λ n. record { within = s .within; placed = omega arith; so-far = so-far-passed w q (o .table) (o .scan .at) (o .scan .best) n f })
+    (λ z. record { within = s .within; placed = omega arith; so-far = (h, z) })
+    (λ z k. record { within = s .within; placed = omega arith; so-far = (omega arith, z) })
     (λ d.
     record {
       within = simp length-set (omega (arith, s .within));
       placed = omega arith;
-      so-far = so-far-set w q (o .table) (o .scan .at) (o .scan .best) _ (s .so-far);
+      so-far = so-far-set w q (o .table) (o .scan .at) (o .scan .best) _ f;
     })
 
 -- What the scan of a whole list knows at its end.

@@ -6,3 +6,5 @@ pub mod Thinned
 pub mod ScanLaws
 pub mod Candidates
 pub mod SearchLaws
+pub mod Answers
+pub mod FindLaws

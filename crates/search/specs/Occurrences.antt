@@ -1,7 +1,6 @@
 -- How often an entry stands in a list, and what a swap-remove does to the count.
 -- Assumes nothing.
-use mathlib.Core.Path.{_≡_, refl, ap, sym, _∙_}
-use mathlib.Core.Bool.{Bool, true, false}
+use mathlib.Core.Path.{_≡_, refl, sym}
 use mathlib.Core.List.{List}
 use mathlib.Core.Logic.{⊎-elim, _⊎_, inl, inr}
 use Prim.Native.Nat.{ℕ, zero, suc, _+_, _-_, _≤_, _<_}
@@ -11,7 +10,7 @@ use lib.Seq.{getD-set-same, getD-set-other}
 use lib.Dec.{eqb}
 use borrow.Author.Tests.{eqb-true, eqb-false, eq-eqb, ne-eqb}
 use Rattle.geometry.specs.Choice.{pick, pick-elim}
-use Rattle.lists.specs.Lists.{Bag, bag, removed}
+use Rattle.lists.specs.Lists.{Bag, removed}
 
 -- 1 where the entry y is x, else 0.
 abbrev pub counted : ℕ → ℕ → ℕ

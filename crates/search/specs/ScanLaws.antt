@@ -1,15 +1,15 @@
 -- The laws of a scan: what a look does, and that as many looks as there are entries are enough.
 -- Each takes the outcome as a variable with its equation, so that a proof hands over what a call ensures.
 -- Assumes nothing.
-use mathlib.Core.Path.{_≡_, refl, ap, sym, subst, _∙_}
+use mathlib.Core.Path.{_≡_, refl, sym}
 use mathlib.Core.Bool.{Bool, true, false}
 use mathlib.Core.List.{List}
-use Prim.Native.Nat.{ℕ, zero, suc, _+_, _-_, _<_, _≤_}
+use Prim.Native.Nat.{ℕ, zero, suc, _-_, _<_, _≤_}
 use native.Mathlib.Omega.{arith}
-use lib.ListN.{length, getD}
+use lib.ListN.{length}
 use lib.Dec.{eqb, ltb}
 use borrow.Author.Tests.{ltb-true, ltb-false, le-ltb, lt-ltb}
-use Rattle.geometry.specs.Choice.{pick, pick-elim}
+use Rattle.geometry.specs.Choice.{pick-elim}
 use Rattle.geometry.specs.Cuts.{widthOf, heightOf}
 use Rattle.geometry.specs.declared.Rectangle.{Rectangle}
 use Rattle.slots.specs.Slots.{slot, nodeAt, sameKind}
@@ -19,9 +19,10 @@ use Rattle.slots.specs.declared.NodeKind.the-variants.{Free}
 use Rattle.lists.specs.Lists.{Bag, bag, removed, freeEntry}
 use Rattle.search.specs.declared.Scan.{Scan}
 use Rattle.search.specs.declared.Best.{Best}
-use Rattle.search.specs.declared.Best.the-variants.{At, Nothing}
+use Rattle.search.specs.declared.Best.the-variants.{Nothing}
 use Rattle.search.specs.declared.Query.{Query}
 use Rattle.search.specs.Scans.{better, scoreOf, passed, kept, ended, weighed, Scanned, scanned, entryAt, dropped, look, looking, Lookable, Ready}
+use Rattle.search.specs.Suits.{Suits}
 use Rattle.search.specs.Thinned.{Thinned, thinned-itself, thinned-twice, each-thinned, dead-removed}
 
 -- The filled part of a scan's table.
@@ -37,8 +38,8 @@ better-than-none : (b : Best) (score new : ℕ) (worst : Bool) → better b scor
 unfolding better
 better-than-none b score new worst e n = let z : _≡_ {A = ℕ} 0 1 = cc in omega arith
 
--- What a look at a Free rectangle may do, by cases: go on where it is too small or there is a candidate, end, or keep it as the candidate.
-pub weighed-cases : (P : Scan → Type 0) (s : Scan) (r : Rectangle) (q : Query)
+-- What a Free rectangle does to a scan, by cases: it goes on where that is too small or there is a candidate, ends, or keeps it.
+weighed-cases : (P : Scan → Type 0) (s : Scan) (r : Rectangle) (q : Query)
     → ((q .width ≤ widthOf r → q .height ≤ heightOf r → s .best ≡ Nothing → ⊥) → P (passed s))
     → (q .width ≤ widthOf r → q .height ≤ heightOf r → P (ended s))
     → (q .width ≤ widthOf r → q .height ≤ heightOf r → P (kept s (scoreOf r q)))
@@ -75,26 +76,34 @@ module _ (w : List ℕ) (q : Query) (o : Scanned) (n : Node) (en : n ≡ nodeAt 
 pub ready-thinned : {w : List ℕ} {o p : Scanned} → Thinned w (listIn o) (listIn p) → Ready w o → Ready w p
 ready-thinned {w} t r = record { within = omega (arith, t .table); entries = each-thinned (Lookable w) t (r .entries) }
 
+-- The outcome p of a look at a place that is left.
 module _ (w : List ℕ) (q : Query) (o p : Scanned) (h : o .scan .at < o .scan .len) (e : p ≡ look w q o) where
+  -- It goes on, past an entry that doesn't suit or with a candidate in hand; it ends, or keeps the entry, where that suits; or it drops the entry.
+  pub look-cases : (P : Scanned → Type 0)
+      → ((Suits w (q .width) (q .height) (entryAt o) → o .scan .best ≡ Nothing → ⊥) → P (scanned (passed (o .scan)) (o .table)))
+      → (Suits w (q .width) (q .height) (entryAt o) → P (scanned (ended (o .scan)) (o .table)))
+      → (Suits w (q .width) (q .height) (entryAt o) → (score : ℕ) → P (scanned (kept (o .scan) score) (o .table)))
+      → (freeEntry w (entryAt o) ≡ false → P (dropped o)) → P p
+  unfolding look
+  look-cases P pass end keep drop =
+      rw e
+      (pick-elim P (freeEntry w (entryAt o)) _ _
+      (λ f.
+      let free = same-kind-equal _ _ f in
+      weighed-cases (λ (s : Scan). P (scanned s (o .table))) (o .scan) (nodeAt w (slot (entryAt o)) .rect) q
+      (λ n. pass (λ z. n (z .wide) (z .tall)))
+      (λ a b. end (record { free = free; wide = a; tall = b }))
+      (λ a b. keep (record { free = free; wide = a; tall = b }) _)) drop)
+
   -- A look leaves fewer places.
   pub look-left : left p < left o
-  unfolding look
-  look-left =
-      rw e
-      (pick-elim (λ (p : Scanned). left p < left o) (freeEntry w (entryAt o)) _ _
-      (λ f. weighed-cases (λ (s : Scan). left (scanned s (o .table)) < left o) (o .scan) (nodeAt w (slot (entryAt o)) .rect) q
-      (λ n. omega arith) (λ a b. omega arith) (λ a b. omega arith))
-      (λ d. omega arith))
+  look-left = look-cases (λ (p : Scanned). left p < left o) (λ n. omega arith) (λ z. omega arith) (λ z k. omega arith) (λ d. omega arith)
 
   -- A look thins the list.
   pub look-thins : o .scan .len ≤ length (o .table) → Thinned w (listIn o) (listIn p)
-  unfolding look
   look-thins b =
-      rw e
-      (pick-elim (λ (p : Scanned). Thinned w (listIn o) (listIn p)) (freeEntry w (entryAt o)) _ _
-      (λ f. weighed-cases (λ (s : Scan). Thinned w (listIn o) (listIn (scanned s (o .table)))) (o .scan) (nodeAt w (slot (entryAt o)) .rect) q
-      (λ n. thinned-itself) (λ c d. thinned-itself) (λ c d. thinned-itself))
-      (λ d. dead-removed w (listIn o) (o .scan .at) h b d))
+      look-cases (λ (p : Scanned). Thinned w (listIn o) (listIn p)) (λ n. thinned-itself) (λ z. thinned-itself) (λ z k. thinned-itself)
+      (dead-removed w (listIn o) (o .scan .at) h b)
 
   -- A look leaves the list ready to be scanned.
   pub look-ready : Ready w o → Ready w p

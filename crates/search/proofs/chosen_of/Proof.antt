@@ -1,7 +1,6 @@
 -- `chosen_of` reads the best candidate's place, which is in the table.
 -- Assumes nothing.
 use borrow.Author.Needs.{needs}
-use native.Mathlib.Omega.{arith}
 use Rattle.search.proofs.chosen_of.Statement.{statement}
 use Rattle.search.proofs.chosen_of.Tie as tie
 
