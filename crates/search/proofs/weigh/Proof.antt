@@ -7,21 +7,18 @@ use Rattle.search.specs.Scans.{weighed}
 use Rattle.search.proofs.weigh.Statement.{statement}
 use Rattle.search.proofs.weigh.Tie as tie
 
+add-next : tie.Need-add-next
+add-next c = search needs
+
 sub-wide : tie.Need-sub-wide
 sub-wide c = search needs
 
 sub-tall : tie.Need-sub-tall
 sub-tall c = search needs
 
-add-t11 : tie.Need-add-t11
-add-t11 c = search needs
-
 returns : tie.Need-returns
 unfolding weighed
 returns c = rw (lt-ltb _ _ (c .if1 .taken))
-
-add-t12 : tie.Need-add-t12
-add-t12 c = search needs
 
 returns-2 : tie.Need-returns-2
 unfolding weighed
@@ -39,18 +36,12 @@ returns-3 c =
 is-better-requires : tie.Need-is-better-requires
 is-better-requires c κs = search needs
 
-add-t17 : tie.Need-add-t17
-add-t17 c = search needs
-
 returns-4 : tie.Need-returns-4
 unfolding weighed
 returns-4 c =
     let l = c .before .before .before in
     let b = l .before .before .before in
     rw (le-ltb _ _ (b .before .before .if1 .left), le-ltb _ _ (b .if2 .left), ← l .lesser .ensures, ne-eqb _ _ (c .before .before .if3 .left), sym (c .before .is-better .ensures) ∙ c .if4 .taken)
-
-add-t19 : tie.Need-add-t19
-add-t19 c = search needs
 
 returns-5 : tie.Need-returns-5
 unfolding weighed
@@ -63,16 +54,13 @@ pub weigh-spec : {M : Type 1} → statement M
 weigh-spec =
     tie.close
     (tie.spec
+    add-next
     sub-wide
     sub-tall
-    add-t11
     returns
-    add-t12
     returns-2
     lesser-requires
     returns-3
     is-better-requires
-    add-t17
     returns-4
-    add-t19
     returns-5)
