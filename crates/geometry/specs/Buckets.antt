@@ -11,6 +11,7 @@ use Rattle.geometry.specs.declared.Bucket.the-variants.{Small, Medium, L
 unfoldable pub reaches : ℕ → ℕ → ℕ → Bool
 reaches threshold w h = leb threshold w || leb threshold h
 
+-- The bucket of a size w×h.
 unfoldable pub bucketOf : ℕ → ℕ → ℕ → ℕ → Bucket
 bucketOf small large w h = pick (reaches large w h) Large (pick (reaches small w h) Medium Small)
 

@@ -103,70 +103,70 @@ module _ (r : Rectangle) (w h : ℕ) (kept : Orientation) where
   unfolding cutOf
   cut-elim P f g = pick-elim P (exactFit r w h) _ _ f g
 
-  module _ (f : FitsIn r w h) where
-    -- Request, split and leftover add up to the chosen rectangle, in every measure that adds up.
-    pub cut-adds : (μ : Rectangle → ℕ) → Adds μ →
-        μ (atCorner r w h) + (μ (cutOf r w h kept .split) + μ (cutOf r w h kept .leftover)) ≡ μ r
-    cut-adds μ adds =
-        cut-elim (λ c. μ (atCorner r w h) + (μ (c .split) + μ (c .leftover)) ≡ μ r)
-        (λ e. rw (exact-fills f e) (omega (arith, adds-nothing μ adds Horizontal 0 0 0)))
-        (λ e. pieces-add (cutWay r w h) f μ adds)
+module _ {r : Rectangle} {w h : ℕ} (f : FitsIn r w h) (kept : Orientation) where
+  -- Request, split and leftover add up to the chosen rectangle, in every measure that adds up.
+  pub cut-adds : (μ : Rectangle → ℕ) → Adds μ →
+      μ (atCorner r w h) + (μ (cutOf r w h kept .split) + μ (cutOf r w h kept .leftover)) ≡ μ r
+  cut-adds μ adds =
+      cut-elim r w h kept (λ c. μ (atCorner r w h) + (μ (c .split) + μ (c .leftover)) ≡ μ r)
+      (λ e. rw (exact-fills f e) (omega (arith, adds-nothing μ adds Horizontal 0 0 0)))
+      (λ e. pieces-add (cutWay r w h) f μ adds)
 
-    -- So they cover each point of it exactly once, and none outside.
-    pub cut-covers : (x y : ℕ) →
-        covers x y (atCorner r w h) + (covers x y (cutOf r w h kept .split) + covers x y (cutOf r w h kept .leftover)) ≡ covers x y r
-    cut-covers x y = cut-adds (covers x y) (covers-adds x y)
+  -- So they cover each point of it exactly once, and none outside.
+  pub cut-covers : (x y : ℕ) →
+      covers x y (atCorner r w h) + (covers x y (cutOf r w h kept .split) + covers x y (cutOf r w h kept .leftover)) ≡ covers x y r
+  cut-covers x y = cut-adds (covers x y) (covers-adds x y)
 
-    -- And their areas add up.
-    pub cut-area : areaOf (atCorner r w h) + (areaOf (cutOf r w h kept .split) + areaOf (cutOf r w h kept .leftover)) ≡ areaOf r
-    cut-area = cut-adds areaOf area-adds
+  -- And their areas add up.
+  pub cut-area : areaOf (atCorner r w h) + (areaOf (cutOf r w h kept .split) + areaOf (cutOf r w h kept .leftover)) ≡ areaOf r
+  cut-area = cut-adds areaOf area-adds
 
-    -- A piece that is not empty lies within the chosen rectangle.
-    pub cut-inside : (emptyRect (cutOf r w h kept .split) ≡ false → Inside (cutOf r w h kept .split) r) ×
-        (emptyRect (cutOf r w h kept .leftover) ≡ false → Inside (cutOf r w h kept .leftover) r)
-    unfolding emptyRect
-    cut-inside =
-        cut-elim (λ c. (emptyRect (c .split) ≡ false → Inside (c .split) r) × (emptyRect (c .leftover) ≡ false → Inside (c .leftover) r))
-        (λ e. (λ n. absurd (true≢false n), λ n. absurd (true≢false n)))
-        (λ e. let k = pieces-inside (cutWay r w h) f in (λ n. k .0, λ n. k .1))
+  -- A piece that is not empty lies within the chosen rectangle.
+  pub cut-inside : (emptyRect (cutOf r w h kept .split) ≡ false → Inside (cutOf r w h kept .split) r) ×
+      (emptyRect (cutOf r w h kept .leftover) ≡ false → Inside (cutOf r w h kept .leftover) r)
+  unfolding emptyRect
+  cut-inside =
+      cut-elim r w h kept (λ c. (emptyRect (c .split) ≡ false → Inside (c .split) r) × (emptyRect (c .leftover) ≡ false → Inside (c .leftover) r))
+      (λ e. (λ n. absurd (true≢false n), λ n. absurd (true≢false n)))
+      (λ e. let k = pieces-inside (cutWay r w h) f in (λ n. k .0, λ n. k .1))
 
-    module _ (p : 0 < w) (q : 0 < h) (e : exactFit r w h ≡ false) where
-      -- Where the fit is not exact, all pieces are spans of the cut's orientation, and the rectangle goes on along it.
-      pub cut-spans : let o = cutOf r w h kept .orientation in
-          Spans o r w h (cutOf r w h kept .split) (cutOf r w h kept .leftover) × (start o r + along o w h < end o r)
-      cut-spans = rw (cut-pieces e) (pieces-span (cutWay r w h) r w h, split-remains f q e)
+  module _ (p : 0 < w) (q : 0 < h) (e : exactFit r w h ≡ false) where
+    -- Where the fit is not exact, all pieces are spans of the cut's orientation, and the rectangle goes on along it.
+    pub cut-spans : let o = cutOf r w h kept .orientation in
+        Spans o r w h (cutOf r w h kept .split) (cutOf r w h kept .leftover) × (start o r + along o w h < end o r)
+    cut-spans = rw (cut-pieces r w h kept e) (pieces-span (cutWay r w h) r w h, split-remains f q e)
 
-      -- The split is not empty.
-      pub split-not-empty : emptyRect (cutOf r w h kept .split) ≡ false
-      split-not-empty =
-          let o = cutWay r w h in
-          let c = start (flip o) r in
-          let d = end (flip o) r in
-          let across : c < d = omega (arith, along-positive (flip o) p q, fits-along (flip o) f) in
-          rw (cut-pieces e, pieces-span o r w h .beyond, span-empty o c d (split-remains f q e)) (lt-leb d c across)
+    -- The split is not empty.
+    pub split-not-empty : emptyRect (cutOf r w h kept .split) ≡ false
+    split-not-empty =
+        let o = cutWay r w h in
+        let c = start (flip o) r in
+        let d = end (flip o) r in
+        let across : c < d = omega (arith, along-positive (flip o) p q, fits-along (flip o) f) in
+        rw (cut-pieces r w h kept e, pieces-span o r w h .beyond, span-empty o c d (split-remains f q e)) (lt-leb d c across)
 
-      -- The leftover is empty exactly where the request goes all the way across.
-      pub cut-leftover-empty : let o = cutOf r w h kept .orientation in
-          emptyRect (cutOf r w h kept .leftover) ≡ eqb (start (flip o) r + along (flip o) w h) (end (flip o) r)
-      cut-leftover-empty =
-          let o = cutWay r w h in
-          let n = start (flip o) r + along (flip o) w h in
-          let d = end (flip o) r in
-          let request : start o r < start o r + along o w h = omega (arith, along-positive o p q) in
-          rw (cut-pieces e, pieces-span o r w h .beside, span-empty o n d request) (leb-eqb n d (fits-along (flip o) f))
+    -- The leftover is empty exactly where the request goes all the way across.
+    pub cut-leftover-empty : let o = cutOf r w h kept .orientation in
+        emptyRect (cutOf r w h kept .leftover) ≡ eqb (start (flip o) r + along (flip o) w h) (end (flip o) r)
+    cut-leftover-empty =
+        let o = cutWay r w h in
+        let n = start (flip o) r + along (flip o) w h in
+        let d = end (flip o) r in
+        let request : start o r < start o r + along o w h = omega (arith, along-positive o p q) in
+        rw (cut-pieces r w h kept e, pieces-span o r w h .beside, span-empty o n d request) (leb-eqb n d (fits-along (flip o) f))
 
-      -- Where it is empty, request and split are all of the rectangle.
-      pub no-leftover-fills : emptyRect (cutOf r w h kept .leftover) ≡ true → let o = cutOf r w h kept .orientation in
-          atCorner r w h ≡ span o (start o r) (start o r + along o w h) (start (flip o) r) (end (flip o) r)
-      no-leftover-fills n =
-          let o = cutOf r w h kept .orientation in
-          let fills = eqb-true (start (flip o) r + along (flip o) w h) (end (flip o) r) (sym cut-leftover-empty ∙ n) in
-          rw (← fills) (cut-spans .0 .request)
+    -- Where it is empty, request and split are all of the rectangle.
+    pub no-leftover-fills : emptyRect (cutOf r w h kept .leftover) ≡ true → let o = cutOf r w h kept .orientation in
+        atCorner r w h ≡ span o (start o r) (start o r + along o w h) (start (flip o) r) (end (flip o) r)
+    no-leftover-fills n =
+        let o = cutOf r w h kept .orientation in
+        let fills = eqb-true (start (flip o) r + along (flip o) w h) (end (flip o) r) (sym cut-leftover-empty ∙ n) in
+        rw (← fills) (cut-spans .0 .request)
 
-      -- Where it is not, the rectangle goes on past the request across the cut too.
-      pub leftover-remains : emptyRect (cutOf r w h kept .leftover) ≡ false → let o = cutOf r w h kept .orientation in
-          start (flip o) r + along (flip o) w h < end (flip o) r
-      leftover-remains n =
-          let o = cutOf r w h kept .orientation in
-          let a = eqb-false (start (flip o) r + along (flip o) w h) (end (flip o) r) (sym cut-leftover-empty ∙ n) in
-          omega (arith, fits-along (flip o) f)
+    -- Where it is not, the rectangle goes on past the request across the cut too.
+    pub leftover-remains : emptyRect (cutOf r w h kept .leftover) ≡ false → let o = cutOf r w h kept .orientation in
+        start (flip o) r + along (flip o) w h < end (flip o) r
+    leftover-remains n =
+        let o = cutOf r w h kept .orientation in
+        let a = eqb-false (start (flip o) r + along (flip o) w h) (end (flip o) r) (sym cut-leftover-empty ∙ n) in
+        omega (arith, fits-along (flip o) f)

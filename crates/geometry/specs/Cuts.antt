@@ -9,13 +9,16 @@ use Rattle.geometry.specs.declared.Orientation.{Orientation}
 use Rattle.geometry.specs.declared.Orientation.the-variants.{Vertical, Horizontal}
 use Rattle.geometry.specs.declared.Cut.{Cut}
 
+-- The other orientation.
 abbrev pub flip : Orientation → Orientation
 flip Vertical = Horizontal
 flip Horizontal = Vertical
 
+-- The rectangle that stands for none.
 abbrev pub noRect : Rectangle
 noRect = record { x0 = 0; y0 = 0; x1 = 0; y1 = 0 }
 
+-- Its sides, W and H.
 abbrev pub widthOf : Rectangle → ℕ
 widthOf r = r .x1 - r .x0
 

@@ -19,6 +19,7 @@ within a b x = leb a x && ltb x b
 unfoldable pub covers : ℕ → ℕ → Rectangle → ℕ
 covers x y r = pick (within (r .x0) (r .x1) x && within (r .y0) (r .y1) y) 1 0
 
+-- Its area.
 unfoldable pub areaOf : Rectangle → ℕ
 areaOf r = widthOf r * heightOf r
 

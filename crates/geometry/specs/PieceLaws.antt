@@ -22,6 +22,7 @@ pub record Spans (o : Orientation) (r : Rectangle) (w h : ℕ) (split leftover :
   pub beyond : split ≡ span o (start o r + along o w h) (end o r) (start (flip o) r) (end (flip o) r)
   pub beside : leftover ≡ span o (start o r) (start o r + along o w h) (start (flip o) r + along (flip o) w h) (end (flip o) r)
 
+-- Either way of cutting gives such spans.
 pub pieces-span : (o : Orientation) (r : Rectangle) (w h : ℕ) → Spans o r w h (splitOf o r w h) (leftoverOf o r w h)
 pieces-span Vertical r w h = record { whole = refl; request = refl; beyond = refl; beside = refl }
 pieces-span Horizontal r w h = record { whole = refl; request = refl; beyond = refl; beside = refl }

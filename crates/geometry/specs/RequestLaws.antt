@@ -100,6 +100,7 @@ module _ (s : Setup) (size : Size) where
       invert : Outcome s size TooLarge → (0 < wide size) × (0 < tall size) × ((2147483647 < wideUp s size) ⊎ (2147483647 < tallUp s size))
       invert (too-large p q h) = (p, q, h)
 
+  -- All that is known of the sides of a request that is taken.
   rounded-sides : {e : Extent} → Outcome s size (Of e) →
       (e .width ≡ wideUp s size) × (e .height ≡ tallUp s size) ×
       (0 < wide size) × (0 < tall size) × (wideUp s size ≤ 2147483647) × (tallUp s size ≤ 2147483647)
@@ -111,7 +112,7 @@ module _ (s : Setup) (size : Size) where
   request-accepted p q h k = outcome-unique request-outcome (accepted p q h k)
 
   module _ {e : Extent} (taken : requestOf s size ≡ Of e) where
-    -- A request that is taken is taken with its sides rounded up, and those are not above 2,147,483,647.
+    -- A request that is taken is taken with its sides rounded up.
     pub request-rounded : (e .width ≡ wideUp s size) × (e .height ≡ tallUp s size)
     request-rounded = let h = rounded-sides (subst (Outcome s size) taken request-outcome) in (h .0, h .1)
 

@@ -48,6 +48,7 @@ pub enum Orientation {
     Horizontal,
 }
 
+// The other orientation.
 pub fn flipped(o: Orientation) -> Orientation
     ensures { λ r. ⌜ r ≡ flip o ⌝ }
 {
@@ -123,6 +124,7 @@ pub fn setup_of(sheet: Size, options: AllocatorOptions) -> Setup
     }
 }
 
+// A side rounded up, or the refusal of one that would be too large.
 pub enum Rounded {
     To(u32),
     Over,
@@ -151,6 +153,7 @@ pub enum Request {
     TooLarge,
 }
 
+// Sides of 0 or less are refused first, then sides too large to round up.
 pub fn request_of(setup: Setup, size: Size) -> Request
     requires { ⌜ ValidSetup setup ⌝ }
     ensures { λ r. ⌜ r ≡ requestOf setup size ⌝ }
@@ -184,6 +187,7 @@ pub enum Bucket {
     Large,
 }
 
+// Whether either side reaches the threshold.
 fn reaches(threshold: u32, w: u32, h: u32) -> bool
     ensures { λ r. ⌜ r ≡ reaches threshold w h ⌝ }
 {
@@ -193,6 +197,7 @@ fn reaches(threshold: u32, w: u32, h: u32) -> bool
     threshold <= h
 }
 
+// Large if either side reaches the large threshold, else medium if one reaches the small one, else small.
 pub fn free_list_for_size(small: u32, large: u32, w: u32, h: u32) -> Bucket
     ensures { λ r. ⌜ r ≡ bucketOf small large w h ⌝ }
 {
@@ -205,6 +210,7 @@ pub fn free_list_for_size(small: u32, large: u32, w: u32, h: u32) -> Bucket
     Bucket::Small
 }
 
+// The rectangle that stands for none.
 fn no_rect() -> Rectangle
     ensures { λ r. ⌜ r ≡ noRect ⌝ }
 {
@@ -233,6 +239,7 @@ fn area_compared(w: u32, h: u32) -> u64
     (w as u64) * (h as u64)
 }
 
+// Whether the request has exactly the size of the rectangle.
 fn is_exact(r: Rectangle, w: u32, h: u32) -> bool
     requires { ⌜ FitsIn r w h ⌝ }
     ensures { λ e. ⌜ e ≡ exactFit r w h ⌝ }
@@ -243,6 +250,7 @@ fn is_exact(r: Rectangle, w: u32, h: u32) -> bool
     false
 }
 
+// Horizontal if the candidate to the right has the greater area, else Vertical.
 fn cut_way(r: Rectangle, w: u32, h: u32) -> Orientation
     requires { ⌜ FitsIn r w h ⌝ }
     ensures { λ o. ⌜ o ≡ cutWay r w h ⌝ }
@@ -253,6 +261,7 @@ fn cut_way(r: Rectangle, w: u32, h: u32) -> Orientation
     Orientation::Vertical
 }
 
+// What the cut leaves past the request: the full-height strip to the right, or the full-width strip below.
 fn split_of(o: Orientation, r: Rectangle, w: u32, h: u32) -> Rectangle
     requires { ⌜ FitsIn r w h ⌝ }
     ensures { λ s. ⌜ s ≡ splitOf o r w h ⌝ }
@@ -273,6 +282,7 @@ fn split_of(o: Orientation, r: Rectangle, w: u32, h: u32) -> Rectangle
     }
 }
 
+// What it leaves beside the request: the candidate at the bottom, or the one to the right.
 fn leftover_of(o: Orientation, r: Rectangle, w: u32, h: u32) -> Rectangle
     requires { ⌜ FitsIn r w h ⌝ }
     ensures { λ l. ⌜ l ≡ leftoverOf o r w h ⌝ }

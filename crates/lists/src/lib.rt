@@ -73,7 +73,14 @@ fn is_kept(words: &[u32], marks: &[u8], x: u32, v: u32) -> bool
 }
 
 // Looks at entry i of a sweep: marks it as seen, and moves it behind the kept ones if it is kept.
-fn sweep_entry(words: &[u32], list: &mut [u32], marks: &mut [u8], i: usize, kept: usize, v: u32) -> usize
+fn sweep_entry(
+    words: &[u32],
+    list: &mut [u32],
+    marks: &mut [u8],
+    i: usize,
+    kept: usize,
+    v: u32,
+) -> usize
     requires { ⌜ (kept ≤ i) × (i < length (now list)) × Sweepable (now words) (now marks) (getD (now list) i 0) ⌝ }
     ensures { λ r. ⌜ sweeping (now (list .exit)) (now (marks .exit)) r ≡ sweepStep (now (words .entry)) v i (sweeping (now (list .entry)) (now (marks .entry)) kept) ⌝ }
 {
@@ -123,7 +130,15 @@ pub fn push(words: &[u32], list: &mut [u32], len: usize, v: u32) -> usize
 }
 
 // Appends v to a bucket's list.
-pub fn push_to(words: &[u32], small: &mut [u32], medium: &mut [u32], large: &mut [u32], lengths: Lengths, bucket: Bucket, v: u32) -> Lengths
+pub fn push_to(
+    words: &[u32],
+    small: &mut [u32],
+    medium: &mut [u32],
+    large: &mut [u32],
+    lengths: Lengths,
+    bucket: Bucket,
+    v: u32,
+) -> Lengths
     requires { ⌜ Pushable (now words) v (listOf bucket (lists lengths (now small) (now medium) (now large))) ⌝ }
     ensures { λ r. ⌜ lists r (now (small .exit)) (now (medium .exit)) (now (large .exit)) ≡ pushedTo (now (words .entry)) v bucket (lists lengths (now (small .entry)) (now (medium .entry)) (now (large .entry))) ⌝ }
 {
@@ -143,7 +158,14 @@ pub fn push_to(words: &[u32], small: &mut [u32], medium: &mut [u32], large: &mut
 }
 
 // Takes entry k of a bucket's list out.
-pub fn remove_from(small: &mut [u32], medium: &mut [u32], large: &mut [u32], lengths: Lengths, bucket: Bucket, k: usize) -> Lengths
+pub fn remove_from(
+    small: &mut [u32],
+    medium: &mut [u32],
+    large: &mut [u32],
+    lengths: Lengths,
+    bucket: Bucket,
+    k: usize,
+) -> Lengths
     requires { ⌜ Within (lists lengths (now small) (now medium) (now large)) × (k < listOf bucket (lists lengths (now small) (now medium) (now large)) .len) ⌝ }
     ensures { λ r. ⌜ lists r (now (small .exit)) (now (medium .exit)) (now (large .exit)) ≡ removedFrom bucket k (lists lengths (now (small .entry)) (now (medium .entry)) (now (large .entry))) ⌝ }
 {
@@ -163,7 +185,14 @@ pub fn remove_from(small: &mut [u32], medium: &mut [u32], large: &mut [u32], len
 }
 
 // The first place of a bucket's list that holds v.
-fn first_in(small: &[u32], medium: &[u32], large: &[u32], lengths: Lengths, bucket: Bucket, v: u32) -> Found
+fn first_in(
+    small: &[u32],
+    medium: &[u32],
+    large: &[u32],
+    lengths: Lengths,
+    bucket: Bucket,
+    v: u32,
+) -> Found
     requires { ⌜ Within (lists lengths (now small) (now medium) (now large)) ⌝ }
     ensures { λ r. ⌜ r ≡ firstIn v bucket (lists lengths (now (small .entry)) (now (medium .entry)) (now (large .entry))) ⌝ }
 {
@@ -175,7 +204,13 @@ fn first_in(small: &[u32], medium: &[u32], large: &[u32], lengths: Lengths, buck
 }
 
 // Takes the first occurrence of v out, the buckets looked at from small to large.
-pub fn forget(small: &mut [u32], medium: &mut [u32], large: &mut [u32], lengths: Lengths, v: u32) -> Lengths
+pub fn forget(
+    small: &mut [u32],
+    medium: &mut [u32],
+    large: &mut [u32],
+    lengths: Lengths,
+    v: u32,
+) -> Lengths
     requires { ⌜ Within (lists lengths (now small) (now medium) (now large)) ⌝ }
     ensures { λ r. ⌜ lists r (now (small .exit)) (now (medium .exit)) (now (large .exit)) ≡ forgotten v (lists lengths (now (small .entry)) (now (medium .entry)) (now (large .entry))) ⌝ }
 {

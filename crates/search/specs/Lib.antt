@@ -1,2 +1,10 @@
 pub mod Scans
 pub mod Search
+pub mod Suits
+pub mod Occurrences
+pub mod Thinned
+pub mod ScanLaws
+pub mod Candidates
+pub mod SearchLaws
+pub mod Answers
+pub mod FindLaws

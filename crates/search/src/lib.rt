@@ -76,6 +76,7 @@ fn weigh(s: Scan, r: Rectangle, q: Query) -> Scan
     ensures { λ t. ⌜ t ≡ weighed s r q ⌝ }
 {
     let at = s.at;
+    let next = at + 1;
     let len = s.len;
     let best = s.best;
     let wide = r.x1 - r.x0;
@@ -83,7 +84,7 @@ fn weigh(s: Scan, r: Rectangle, q: Query) -> Scan
     if wide < q.width {
         return Scan {
             len: len,
-            at: at + 1,
+            at: next,
             best: best,
             score: s.score,
         };
@@ -91,7 +92,7 @@ fn weigh(s: Scan, r: Rectangle, q: Query) -> Scan
     if tall < q.height {
         return Scan {
             len: len,
-            at: at + 1,
+            at: next,
             best: best,
             score: s.score,
         };
@@ -108,14 +109,14 @@ fn weigh(s: Scan, r: Rectangle, q: Query) -> Scan
     if is_better(best, s.score, score, q.worst) {
         return Scan {
             len: len,
-            at: at + 1,
+            at: next,
             best: Best::At(at),
             score: score,
         };
     }
     Scan {
         len: len,
-        at: at + 1,
+        at: next,
         best: best,
         score: s.score,
     }
@@ -311,7 +312,12 @@ pub fn find_suitable_rect(
     ensures { λ r. ⌜ searched (r .chosen) (lists (r .lengths) (now (small .exit)) (now (medium .exit)) (now (large .exit)))
         ≡ findSuitable (now (words .entry)) setup request (lists lengths (now (small .entry)) (now (medium .entry)) (now (large .entry))) ⌝ }
 {
-    let ideal = geometry::free_list_for_size(setup.small, setup.large, request.width, request.height);
+    let ideal = geometry::free_list_for_size(
+        setup.small,
+        setup.large,
+        request.width,
+        request.height,
+    );
     let q = Query {
         width: request.width,
         height: request.height,

@@ -92,12 +92,14 @@ returns-5 : tie.Need-returns-5
 returns-5 c =
     let o = c .before .before in
     let a = o .before .before .before in
+    let s = a .before .before .before in
+    let options = s .before .before .before .before .before .before .before .before .before .args .options in
     rw (
-      sheet-passed (a .before .before .before),
+      sheet-passed s,
       align-width (a .before) (ne-eqb _ _ (a .if3 .left)),
       align-height (o .before) (ne-eqb _ _ (o .if4 .left)),
-      read-back _ (c .struct-told5 .given .1 .0 .1),
-      read-back _ (c .struct-told5 .given .1 .1 .0 .1),
+      read-back (options .small) (c .struct-told5 .given .1 .0 .1),
+      read-back (options .large) (c .struct-told5 .given .1 .1 .0 .1),
     )
 
 pub is-valid-spec : {M : Type 1} → statement M

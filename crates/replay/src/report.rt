@@ -1,0 +1,52 @@
+// What the program writes at the end.
+use crate::verdict::Tally;
+
+fn say(words: &[u8], number: u64) {
+    io::write_all(1, words);
+    io::print_decimal(1, number);
+    io::write_all(1, b"\n");
+}
+
+// A kind of line, as docs/ORACLE.md numbers them, and how many there were.
+fn say_kind(kind: u64, number: u64) {
+    io::write_all(1, b"  of kind ");
+    io::print_decimal(1, kind);
+    say(b": ", number);
+}
+
+// The kinds that are not replayed yet.
+fn report_later(counts: &[u64; 32]) {
+    let mut kind = 1;
+    while kind < 15 {
+        say_kind(kind as u64, counts[kind]);
+        kind += 1;
+    }
+}
+
+// Where the first line stood that our code does not agree with, and the first that is out of form.
+fn report_firsts(tally: Tally) {
+    if tally.mismatches > 0 {
+        say(b"first mismatch on line ", tally.first_mismatch);
+        say(b"  of kind ", tally.mismatch_kind as u64);
+    }
+    if tally.faults > 0 {
+        say(b"first fault on line ", tally.first_fault);
+    }
+}
+
+fn report_agreed(counts: &[u64; 32], tickets: u64) {
+    say(b"buckets agree ", counts[20]);
+    say(b"roundings agree ", counts[21]);
+    say(b"cuts agree ", counts[22]);
+    say(b"tickets agree ", tickets);
+}
+
+pub fn report(counts: &[u64; 32], tally: Tally) {
+    say(b"lines ", tally.lines);
+    report_agreed(counts, tally.tickets);
+    say(b"mismatches ", tally.mismatches);
+    say(b"faults ", tally.faults);
+    report_firsts(tally);
+    say(b"lines not replayed yet ", tally.later);
+    report_later(counts);
+}

@@ -1,0 +1,93 @@
+// What is found of one line of the list, and the counts of it.
+
+pub enum Verdict {
+    // Our code gives what the list says.
+    Agrees,
+    // The line's ticket agrees; its call is not replayed yet.
+    Ticket,
+    // The line is not replayed yet.
+    Later,
+    // Our code gives something else.
+    Differs,
+    // No line of the format, or one on which our code must not be called.
+    Fault,
+}
+
+// The lines so far, and where the first mismatch and the first fault stood: line 0 where there was none.
+pub struct Tally {
+    pub lines: u64,
+    pub tickets: u64,
+    pub later: u64,
+    pub mismatches: u64,
+    pub faults: u64,
+    pub first_mismatch: u64,
+    pub mismatch_kind: u32,
+    pub first_fault: u64,
+}
+
+pub fn none_yet() -> Tally {
+    Tally {
+        lines: 0,
+        tickets: 0,
+        later: 0,
+        mismatches: 0,
+        faults: 0,
+        first_mismatch: 0,
+        mismatch_kind: 0,
+        first_fault: 0,
+    }
+}
+
+// One more, but for the largest number, which stays.
+pub fn more(n: u64) -> u64 {
+    if n == u64::MAX {
+        return n;
+    }
+    n + 1
+}
+
+pub fn told(agrees: bool) -> Verdict {
+    if agrees {
+        return Verdict::Agrees;
+    }
+    Verdict::Differs
+}
+
+fn mismatched(tally: Tally, kind: u32) -> Tally {
+    let mut after = tally;
+    if tally.mismatches == 0 {
+        after.first_mismatch = tally.lines;
+        after.mismatch_kind = kind;
+    }
+    after.mismatches = more(tally.mismatches);
+    after
+}
+
+fn faulted(tally: Tally) -> Tally {
+    let mut after = tally;
+    if tally.faults == 0 {
+        after.first_fault = tally.lines;
+    }
+    after.faults = more(tally.faults);
+    after
+}
+
+// The counts after one more line of this kind.
+pub fn counted(tally: Tally, kind: u32, verdict: Verdict) -> Tally {
+    let mut after = tally;
+    after.lines = more(tally.lines);
+    match verdict {
+        Verdict::Agrees => after,
+        Verdict::Ticket => {
+            after.tickets = more(tally.tickets);
+            after.later = more(tally.later);
+            after
+        }
+        Verdict::Later => {
+            after.later = more(tally.later);
+            after
+        }
+        Verdict::Differs => mismatched(after, kind),
+        Verdict::Fault => faulted(after),
+    }
+}

@@ -1,0 +1,94 @@
+-- The laws of the search by which its functions are proved: what each of their calls ensures makes the whole.
+-- Assumes nothing.
+use mathlib.Core.Path.{_≡_, refl}
+use mathlib.Core.Bool.{Bool, true, false}
+use mathlib.Core.List.{List}
+use Prim.Native.Nat.{ℕ, suc}
+use Rattle.geometry.specs.Buckets.{bucketOf}
+use Rattle.geometry.specs.declared.Bucket.{Bucket}
+use Rattle.geometry.specs.declared.Bucket.the-variants.{Small, Medium, Large}
+use Rattle.geometry.specs.declared.Extent.{Extent}
+use Rattle.geometry.specs.declared.Setup.{Setup}
+use Rattle.lists.specs.Lists.{Bag}
+use Rattle.lists.specs.FreeLists.{Lists, listOf, withList}
+use Rattle.search.specs.declared.Chosen.{Chosen}
+use Rattle.search.specs.declared.Query.{Query}
+use Rattle.search.specs.Scans.{Scanned, scanned, first, scanAll, Ready}
+use Rattle.search.specs.Search.{BestWithin, chosenOf, ScanAnswer, scanAnswer, scanBucket, Searched, searched, searchOne, isLarge, higher, settled, searchUp, findSuitable, Searchable}
+use Rattle.search.specs.Thinned.{Thinned, thinned-itself}
+use Rattle.search.specs.ScanLaws.{listIn, ready-thinned, looking-thins}
+use Rattle.search.specs.Candidates.{scan-scans, scanning-best}
+
+-- The scan of a list that is ready ends with its best candidate in the table.
+pub scan-best : (w : List ℕ) (q : Query) (l : Bag) (o : Scanned) → o ≡ scanAll w q (l .table) (l .len)
+    → Ready w (scanned (first (l .len)) (l .table)) → BestWithin (o .scan .best) (o .table)
+scan-best w q l o e r = rw e (scanning-best w q (scanAll w q (l .table) (l .len)) (scan-scans w q (l .table) (l .len) (r .within)))
+
+-- The scan of a bucket's list, by the scan and the answer read off it.
+pub bucket-scanned : (w : List ℕ) (q : Query) (b : Bucket) (l : Bag) (o : Scanned) (c : Chosen) → o ≡ scanAll w q (l .table) (l .len)
+    → c ≡ chosenOf b (o .scan .best) (o .table) → scanAnswer c (listIn o) ≡ scanBucket w q b l
+unfolding scanBucket
+bucket-scanned w q b l o c e f = rw (f, e)
+
+-- What holds of a list that takes a bucket's place, and of the others, holds of each after it.
+pub each-list : (P : Bucket → Bag → Type 0) (b : Bucket) (a : Bag) (l : Lists) → P b a → ((c : Bucket) → P c (listOf c l))
+    → (c : Bucket) → P c (listOf c (withList b a l))
+each-list P Small a l p r Small = p
+each-list P Small a l p r Medium = r Medium
+each-list P Small a l p r Large = r Large
+each-list P Medium a l p r Small = r Small
+each-list P Medium a l p r Medium = p
+each-list P Medium a l p r Large = r Large
+each-list P Large a l p r Small = r Small
+each-list P Large a l p r Medium = r Medium
+each-list P Large a l p r Large = p
+
+-- A bucket's list is the one that took its place.
+pub list-there : (b : Bucket) (a : Bag) (l : Lists) → listOf b (withList b a l) ≡ a
+list-there Small a l = refl
+list-there Medium a l = refl
+list-there Large a l = refl
+
+-- The search of one bucket, by the scan of its list.
+pub one-searched : (w : List ℕ) (q : Query) (b c : Bucket) (l : Lists) (a : ScanAnswer) → b ≡ c → a ≡ scanBucket w q b (listOf c l)
+    → searched (a .chosen) (withList c (a .list) l) ≡ searchOne w q b l
+unfolding searchOne
+one-searched w q b c l a e f = rw (f, e)
+
+-- The search of one bucket thins its list and leaves the others.
+pub one-thins : (w : List ℕ) (q : Query) (b : Bucket) (l : Lists) → Searchable w l → (c : Bucket)
+    → Thinned w (listOf c l) (listOf c (searchOne w q b l .lists))
+unfolding searchOne scanBucket
+one-thins w q b l r =
+    each-list (λ c a. Thinned w (listOf c l) a) b (scanBucket w q b (listOf b l) .list) l
+    (looking-thins w q (listOf b l .len) (scanned (first (listOf b l .len)) (listOf b l .table)) (r b .within)) (λ c. thinned-itself)
+
+-- Thinned lists are as ready to be searched as they were.
+pub searchable-thinned : {w : List ℕ} {l m : Lists} → ((c : Bucket) → Thinned w (listOf c l) (listOf c m)) → Searchable w l → Searchable w m
+searchable-thinned t r = λ c. ready-thinned (t c) (r c)
+
+-- The search of one bucket leaves the lists ready to be searched.
+pub one-searchable : (w : List ℕ) (q : Query) (b : Bucket) (l : Lists) (s : Searched) → s ≡ searchOne w q b l → Searchable w l → Searchable w (s .lists)
+one-searchable w q b l s e r = rw e (searchable-thinned (one-thins w q b l r) r)
+
+-- From a bucket upward, by the search of the bucket: it decides, or the search goes on above.
+module _ (w : List ℕ) (q : Query) (b : Bucket) (l : Lists) (s : Searched) (e : s ≡ searchOne w q b l) where
+  pub up-last : s ≡ searchUp w q 0 b l
+  unfolding searchUp
+  up-last = e
+
+  pub up-stops : (k : ℕ) → settled (s .chosen) b ≡ true → s ≡ searchUp w q (suc k) b l
+  unfolding searchUp
+  up-stops k f = rw (← e, f)
+
+  pub up-goes-on : (k : ℕ) (c : Bucket) (t : Searched) → settled (s .chosen) b ≡ false → c ≡ higher b → t ≡ searchUp w q k c (s .lists)
+      → t ≡ searchUp w q (suc k) b l
+  unfolding searchUp
+  up-goes-on k c t f h g = rw (← e, f, g, h)
+
+-- The search for a request, by its bucket and whether that is large.
+pub suitable-found : (w : List ℕ) (s : Setup) (e : Extent) (l : Lists) (b : Bucket) (t : Bool) (f : Searched)
+    → b ≡ bucketOf (s .small) (s .large) (e .width) (e .height) → t ≡ isLarge b
+    → f ≡ searchUp w (record { width = e .width; height = e .height; worst = t }) 2 b l → f ≡ findSuitable w s e l
+unfolding findSuitable
+suitable-found w s e l b t f eb et ef = rw (ef, et, eb)
