@@ -38,7 +38,7 @@ occurrences-removed x b k h n = rw (count-last (holds b x) (b .len) (omega arith
     go (yes e) = rw (count-same (holds (removed b k) x) (holds b x) (b .len - 1) (λ j l. other j (λ q. omega arith)), e) (omega arith)
     go (no e) = rw (← there) (omega (arith, count-change (holds (removed b k) x) (holds b x) k (b .len - 1) (omega arith) other))
 
--- Both together: the entry taken out occurs once less, any other as often.
+-- The two cases apart: any other entry occurs as often, the one taken out once less.
 pub removed-others : (x : ℕ) (b : Bag) (k : ℕ) → k < b .len → b .len ≤ length (b .table) → (getD (b .table) k 0 ≡ x → ⊥) → occurrences x (removed b k) ≡ occurrences x b
 removed-others x b k h n q = omega (arith, rw (ne-eqb (getD (b .table) k 0) x q) at (occurrences-removed x b k h n))
 

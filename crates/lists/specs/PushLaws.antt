@@ -45,13 +45,13 @@ module _ (w : List ℕ) (v : ℕ) (b : Bag) (p : Pushable w v b) where
   pub room-ready : ready w v b .len < length (ready w v b .table)
   room-ready = ready-elim w v b (λ (x : Bag). x .len < length (x .table)) (λ h. h) (λ _. room-swept (swept w v b) refl)
 
-  -- A push keeps the table's length, and the new length is within it.
+  -- A push keeps the table's length.
   pub length-pushed : length (pushed w v b .table) ≡ length (b .table)
   length-pushed =
       rw (pushed-ready w v b, length-appended)
       (ready-elim w v b (λ (x : Bag). length (x .table) ≡ length (b .table)) (λ _. refl) (λ _. length-swept w v b (p .entries .within)))
 
-  -- The entries name slots of the table after a push.
+  -- After a push the length is within the table, and the entries name slots.
   pub entries-pushed : Entries w (pushed w v b)
   entries-pushed =
       rw (pushed-ready w v b)
