@@ -23,6 +23,10 @@ unfoldable pub adjoins : Orientation → Rectangle → Rectangle → Bool
 adjoins Vertical r s = eqb (r .y1) (s .y0) && (eqb (r .x0) (s .x0) && eqb (r .x1) (s .x1))
 adjoins Horizontal r s = eqb (r .x1) (s .x0) && (eqb (r .y0) (s .y0) && eqb (r .y1) (s .y1))
 
+-- A first member and the rest each fit, and adjoin.
+abbrev pub fitsTogether : Orientation → Placed → Placed → Bool
+fitsTogether o a b = a .fits && (b .fits && adjoins o (a .at) (b .at))
+
 abbrev pub outOfSlots : Placed
 outOfSlots = record { ended = false; fits = false; at = noRect; left = 0 }
 
@@ -69,5 +73,5 @@ pub record Slotted (w fs : List ℕ) (i left : ℕ) (p : Placed) : Type 0 where
 pub record Together (o : Orientation) (a b p : Placed) : Type 0 where
   pub ended : p .ended ≡ b .ended
   pub left : p .left ≡ b .left
-  pub fits : b .ended ≡ true → p .fits ≡ (a .fits && (b .fits && adjoins o (a .at) (b .at)))
+  pub fits : b .ended ≡ true → p .fits ≡ fitsTogether o a b
   pub at : b .ended ≡ true → p .at ≡ join (a .at) (b .at)

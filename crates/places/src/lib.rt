@@ -7,7 +7,7 @@ ghost use mathlib.Core.Path.{_≡_};
 ghost use mathlib.Core.Bool.{true};
 ghost use Prim.Native.Nat.{_<_};
 ghost use Rattle.sound.specs.Rules.{join};
-ghost use Rattle.places.specs.Places.{adjoins, Ready, Chained, Slotted, Contained, Together, outOfSlots, ownPlace};
+ghost use Rattle.places.specs.Places.{adjoins, fitsTogether, Ready, Chained, Slotted, Contained, Together, outOfSlots, ownPlace};
 
 // What a walk over a chain or a slot found: whether it came to its end within the count, whether all that it saw fits together,
 // the place if so, and how many slots of the count are left.
@@ -86,6 +86,21 @@ fn own_place(rect: Rectangle, left: u32) -> Placed
     }
 }
 
+// Whether a first member and the rest each fit, and adjoin.
+fn fits_together(o: Orientation, a: Placed, b: Placed) -> bool
+    ensures { λ r. ⌜ r ≡ fitsTogether o a b ⌝ }
+{
+    if !a.fits {
+        return false;
+    }
+    if !b.fits {
+        return false;
+    }
+    let r = a.at;
+    let s = b.at;
+    adjoins(o, r, s)
+}
+
 // The place of a first member and the place of the rest, as one.
 fn together(o: Orientation, a: Placed, b: Placed) -> Placed
     requires { ⌜ a .ended ≡ true ⌝ }
@@ -96,16 +111,16 @@ fn together(o: Orientation, a: Placed, b: Placed) -> Placed
     }
     let r = a.at;
     let s = b.at;
-    let both = a.fits && b.fits;
     Placed {
         ended: true,
-        fits: both && adjoins(o, r, s),
+        fits: fits_together(o, a, b),
         at: joined(r, s),
         left: b.left,
     }
 }
 
-fn place_of_slot(words: &[u32], firsts: &[u32], i: AllocIndex, left: u32) -> Placed
+// The place of slot i, with what is below it.
+pub fn place_of_slot(words: &[u32], firsts: &[u32], i: AllocIndex, left: u32) -> Placed
     requires { ⌜ Ready (now words) (now firsts) (i .0) ⌝ }
     ensures { λ p. ⌜ Slotted (now (words .entry)) (now (firsts .entry)) (i .0) left p ⌝ }
 {
@@ -121,6 +136,7 @@ fn place_of_slot(words: &[u32], firsts: &[u32], i: AllocIndex, left: u32) -> Pla
     own_place(rect, left)
 }
 
+// The place of a Container: that of its chain of children.
 fn place_of_container(words: &[u32], firsts: &[u32], i: AllocIndex, left: u32) -> Placed
     requires { ⌜ Ready (now words) (now firsts) (i .0) × Contained (now words) (i .0) × (0 < left) ⌝ }
     ensures { λ p. ⌜ Slotted (now (words .entry)) (now (firsts .entry)) (i .0) left p ⌝ }
