@@ -16,7 +16,7 @@ use Rattle.slots.specs.Slots.{slot, isNone, nodeAt}
 use Rattle.sound.specs.View.{none, to, linkOf, seen, Live}
 use Rattle.sound.specs.Rules.{FirstChild}
 use Rattle.links.specs.Links.{Table, isFirst, entered, firstsTo}
-use Rattle.links.specs.Says.{Says, both-say, says-as, less-says}
+use Rattle.links.specs.TestLaws.{Says, both-say, says-as, less-says}
 use Rattle.links.specs.LinkLaws.{link-none, link-to-says, in-use-says}
 use Rattle.links.specs.TurnLaws.{length-entered}
 

@@ -1,8 +1,9 @@
 pub mod Links
 pub mod TurnLaws
-pub mod Says
+pub mod TestLaws
 pub mod LinkLaws
-pub mod LinksHere
 pub mod FirstLaws
-pub mod UnusedLaws
+pub mod SpareLaws
+pub mod AgreeLaws
 pub mod LinkedLaws
+pub mod MergedLaws

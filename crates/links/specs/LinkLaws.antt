@@ -14,7 +14,7 @@ use Rattle.slots.specs.declared.NodeKind.{NodeKind}
 use Rattle.slots.specs.declared.NodeKind.the-variants.{Container, Alloc, Free, Unused}
 use Rattle.sound.specs.View.{Link, none, to, linkOf, Seen, seen, inUse, Live}
 use Rattle.links.specs.Links.{Table, liveAt, linkAt}
-use Rattle.links.specs.Says.{Says, both-say, less-says}
+use Rattle.links.specs.TestLaws.{Says, both-say, less-says}
 
 pub to-inj : {i j : ℕ} → to i ≡ to j → i ≡ j
 to-inj p = cc

@@ -1,10 +1,11 @@
 -- RULE 3, EXACT: the tests of all slots, and a forest of all live slots that follows from a live root, are rule 3.
 -- Assumes nothing.
 use mathlib.Core.Path.{_≡_, refl, ap, sym, _∙_}
-use mathlib.Core.Bool.{true, false}
+use mathlib.Core.Bool.{true, false, false≢true}
 use mathlib.Core.List.{List}
 use Prim.Native.Nat.{ℕ, _-_, _≤_, _<_}
-use lib.ListN.{getD}
+use lib.ListN.{getD, take}
+use lib.Seq.{getD-take}
 use Rattle.slots.specs.Slots.{slot, isNone}
 use Rattle.slots.specs.declared.NodeKind.the-variants.{Container}
 use Rattle.steps.specs.Spares.{unusedBelow}
@@ -15,9 +16,9 @@ use Rattle.forest.specs.Pigeon.{count}
 use Rattle.forest.specs.Forest.{Forest, head}
 use Rattle.forest.specs.Follows.{Follows, Local, size, down, kidsOf, nextOf, live, linked-follows, follows-linked}
 use Rattle.links.specs.Links.{Table, linksAt}
-use Rattle.links.specs.LinksHere.{LinksHere, links-at-is}
+use Rattle.links.specs.AgreeLaws.{LinksHere, links-at-is}
 use Rattle.links.specs.FirstLaws.{Firsts}
-use Rattle.links.specs.UnusedLaws.{live-count}
+use Rattle.links.specs.SpareLaws.{live-count}
 
 -- The links that the walk over the forest follows: a Container's first child, by the table of first children, and next.
 abbrev pub kidsIn : List ℕ → List ℕ → ℕ → Link
@@ -78,8 +79,9 @@ module _ (w fs : List ℕ) (n root : ℕ) (t : Table w n) (f : Firsts w fs n) wh
           ; root-prev = here root r .top .1 refl .1
           ; root-only = λ i lv a b. here i lv .top .0 (a, b) }
 
-    table : (i c : ℕ) → Live (seen w) n i → seen w i .kind ≡ Container → FirstChild (seen w) n i c → to (getD fs i 0) ≡ to c
-    table i c lv k h = ap to (links-entered i c h)
+    -- The table says of each Container its one first child: what the walk over the forest goes by.
+    pub links-table : (i c : ℕ) → Live (seen w) n i → seen w i .kind ≡ Container → FirstChild (seen w) n i c → to (getD fs i 0) ≡ to c
+    links-table i c lv k h = ap to (links-entered i c h)
 
   -- Where rule 3 holds, every slot passes the test.
   pub links-at-no : Linked (seen w) n root → LinksPass w fs n root
@@ -101,16 +103,32 @@ module _ (w fs : List ℕ) (n root : ℕ) (t : Table w n) (f : Firsts w fs n) wh
           let b = L .parent-live c j (h .live) (h .parent) .0 in
           L .one-child j (getD fs j 0) c (f .is-first j b (f .some j c b h)) h
 
+  -- The front of the table of first children serves as well.
+  pub links-pass-front : LinksPass w fs n root → LinksPass w (take n fs) n root
+  links-pass-front p i b =
+      links-at-is w (take n fs) n root t i b .1
+      (λ lv. let h = here p i lv in
+         record
+           { parent-live = h .parent-live; next-live = h .next-live; prev-live = h .prev-live
+           ; next = h .next; prev = h .prev; parent = h .parent
+           ; child = λ k. rw (getD-take n fs i 0 b) (h .child k)
+           ; first = λ v j e. getD-take n fs j 0 (h .parent-live j e .0) ∙ h .first v j e
+           ; top = h .top })
+
+  -- A slot that fails breaks rule 3.
+  pub links-at-breaks : (i : ℕ) → i < n → linksAt w fs n root i ≡ false → Linked (seen w) n root → ⊥
+  links-at-breaks i b e L = false≢true (sym e ∙ links-at-no L i b)
+
   -- The two together.
   pub links-say-linked : LinksHold w fs n root → Linked (seen w) n root
   unfolding kidsOf nextOf live
   links-say-linked h =
-      follows-linked (seen w) n root (λ i. to (getD fs i 0)) (links-at-yes (h .passes) (h .root-live)) (table (h .passes))
+      follows-linked (seen w) n root (λ i. to (getD fs i 0)) (links-at-yes (h .passes) (h .root-live)) (links-table (h .passes))
       (h .forest) (h .from-root) (h .follows) (h .whole ∙ sym (live-count w n))
 
   pub linked-says-links : Linked (seen w) n root → LinksHold w fs n root
   unfolding kidsOf nextOf live
   linked-says-links L =
       let p = links-at-no L in
-      let F = linked-follows (seen w) n root (λ i. to (getD fs i 0)) (links-at-yes p (L .root-live)) (table p) L in
+      let F = linked-follows (seen w) n root (λ i. to (getD fs i 0)) (links-at-yes p (L .root-live)) (links-table p) L in
       record { passes = p; root-live = L .root-live; forest = F .0; from-root = F .1; follows = F .2; whole = F .3 ∙ live-count w n }

@@ -46,6 +46,9 @@ pick-says {a = false} {b} s t =
 pub says-as : {b : Bool} {P Q : Type 0} → Says b P → P ↔ Q → Says b Q
 says-as s m = (λ e. m .0 (s .0 e), λ q. s .1 (m .1 q))
 
+pub not-say : {b : Bool} {P : Type 0} → Says b P → Says (not b) (P → ⊥)
+not-say {b} s = (λ e p. fails s (not-true b e) p, λ r. ap not (refuted s r))
+
 pub not-says : (b : Bool) → Says (not b) (b ≡ false)
 not-says b = (not-true b, λ e. ap not e)
 

@@ -12,7 +12,7 @@ use Rattle.slots.specs.Slots.{slot, isNone, nodeAt}
 use Rattle.slots.specs.declared.NodeKind.the-variants.{Container}
 use Rattle.sound.specs.View.{Link, none, to, linkOf, Seen, seen, Live}
 use Rattle.links.specs.Links.{Table, nextAgrees, prevAgrees, parentAgrees, childAgrees, firstAgrees, rootAgrees, linksSane, siblingsAgree, familyAgrees, linksAt}
-use Rattle.links.specs.Says.{Says, both-say, where-says, pick-says, says-as, not-says, equal-says, kind-says, orientation-says}
+use Rattle.links.specs.TestLaws.{Says, both-say, where-says, pick-says, says-as, not-says, equal-says, kind-says, orientation-says}
 use Rattle.links.specs.LinkLaws.{link-none, same-link-says, link-to-says, link-says, live-is, link-is}
 
 -- Rule 3 of slot i, with the table of first children.

@@ -20,7 +20,7 @@ use Rattle.forest.specs.Pigeon.{bit, count}
 use Rattle.forest.specs.Ends.{EndsIn}
 use Rattle.forest.specs.Spare.{isDead, none-visits, visits-step, spare-steps, steps-spare}
 use Rattle.links.specs.Links.{Table, spareWalk}
-use Rattle.links.specs.Says.{Says, both-say, says-as, less-says, kind-says}
+use Rattle.links.specs.TestLaws.{Says, both-say, says-as, less-says, kind-says}
 use Rattle.links.specs.LinkLaws.{link-none, link-some, link-of-slot, link-names, unused-kind}
 
 -- The slots that are Unused are counted as such, and the others are live.
