@@ -1,12 +1,10 @@
 -- Rule 2: the spare chain is a chain that ends, that visits Unused slots alone and passes as many as there are.
 -- Assumes nothing.
 use Prim.Native.Nat.{ℕ, zero, suc, _<_}
-use mathlib.Core.Path.{_≡_, refl, sym, _∙_, ap}
-use mathlib.Core.Bool.{Bool, true, false, not}
+use mathlib.Core.Path.{_≡_, refl, ap}
+use mathlib.Core.Bool.{Bool, true, not}
 use mathlib.Core.Logic.{_⊎_, inl, inr, ⊎-elim}
-use mathlib.Core.List.{List}
 use native.Mathlib.Omega.{arith}
-use lib.ListN.{length}
 use borrow.Author.Tests.{not-true}
 use Rattle.sound.specs.View.{Link, none, to, Seen, inUse, Dead}
 use Rattle.sound.specs.Rules.{Ends, onward, Visits, it, later}
@@ -67,7 +65,7 @@ module _ (get : ℕ → Seen) (n : ℕ) (l : Link) where
       let f : ℕ → Link = λ j. get j .next in
       let e = ends-in (S .ends) in
       let dead : (a : ℕ) → In a (path f l (e .0) (e .1)) → (a < n) × (isDead get a ≡ true) =
-              λ a m. let d = S .only a (path-visits f l (e .0) (e .1) a m) in (d .0, ap not (d .1)) in
+      λ a m. let d = S .only a (path-visits f l (e .0) (e .1) a m) in (d .0, ap not (d .1)) in
       let up = pigeon (isDead get) n (path f l (e .0) (e .1)) (path-distinct f l (e .0) (e .1)) dead in
       let down = cover-length (path f l (e .0) (e .1)) (isDead get) n (λ i a b. visits-path f l (e .0) (e .1) i (S .each i (a, not-true _ b))) in
       let same : count (isDead get) n ≡ e .0 = omega (arith, path-length f l (e .0) (e .1), up, down) in
@@ -79,10 +77,13 @@ module _ (get : ℕ → Seen) (n : ℕ) (l : Link) where
     where
       f : ℕ → Link
       f j = get j .next
+
       k : ℕ
       k = count (isDead get) n
+
       dead : (a : ℕ) → In a (path f l k e) → (a < n) × (isDead get a ≡ true)
       dead a m = let d = only a (path-visits f l k e a m) in (d .0, ap not (d .1))
+
       each : (i : ℕ) → Dead get n i → Visits f i l
       each i d =
           path-visits f l k e i

@@ -1,16 +1,16 @@
 -- What the test of a slot's links says of the slot: rule 3, but for the sentences that follow links to their end.
 -- Assumes nothing.
-use mathlib.Core.Path.{_≡_, refl, ap, sym, _∙_}
-use mathlib.Core.Bool.{Bool, true, false, _&&_, _||_, not}
+use mathlib.Core.Path.{_≡_}
+use mathlib.Core.Bool.{false}
 use mathlib.Core.List.{List}
 use mathlib.Core.Logic.{_↔_}
-use Prim.Native.Nat.{ℕ, _≤_, _<_}
+use Prim.Native.Nat.{ℕ, _<_}
 use native.Mathlib.Omega.{arith}
 use lib.ListN.{getD}
 use Rattle.geometry.specs.Cuts.{flip}
 use Rattle.slots.specs.Slots.{slot, isNone, nodeAt}
 use Rattle.slots.specs.declared.NodeKind.the-variants.{Container}
-use Rattle.sound.specs.View.{Link, none, to, linkOf, Seen, seen, Live}
+use Rattle.sound.specs.View.{none, to, Seen, seen, Live}
 use Rattle.links.specs.Links.{Table, nextAgrees, prevAgrees, parentAgrees, childAgrees, firstAgrees, rootAgrees, linksSane, siblingsAgree, familyAgrees, linksAt}
 use Rattle.links.specs.TestLaws.{Says, both-say, where-says, pick-says, says-as, not-says, equal-says, kind-says, orientation-says}
 use Rattle.links.specs.LinkLaws.{link-none, same-link-says, link-to-says, link-says, live-is, link-is}
@@ -83,9 +83,17 @@ module _ (w fs : List ℕ) (n root : ℕ) (t : Table w n) (i : ℕ) (b : i < n) 
   unfolding linksAt siblingsAgree familyAgrees
   links-at-is =
       where-says (live-is w n i)
-      (λ lv. says-as (both-say sane-says (both-say (both-say next-says prev-says) (both-say parent-says (both-say child-says (both-say first-says root-says)))))
-        (λ s. record
-           { parent-live = s .0 .0; next-live = s .0 .1 .0; prev-live = s .0 .1 .1
-           ; next = s .1 .0 .0; prev = s .1 .0 .1
-           ; parent = s .1 .1 .0; child = s .1 .1 .1 .0; first = s .1 .1 .1 .1 .0; top = s .1 .1 .1 .1 .1 },
-         λ h. ((h .parent-live, (h .next-live, h .prev-live)), ((h .next, h .prev), (h .parent, (h .child, (h .first, h .top)))))))
+      (λ lv. says-as (both-say sane-says (both-say (both-say next-says prev-says) (both-say parent-says (both-say child-says (both-say first-says root-says))))) (
+        λ s. record {
+          parent-live = s .0 .0;
+          next-live = s .0 .1 .0;
+          prev-live = s .0 .1 .1;
+          next = s .1 .0 .0;
+          prev = s .1 .0 .1;
+          parent = s .1 .1 .0;
+          child = s .1 .1 .1 .0;
+          first = s .1 .1 .1 .1 .0;
+          top = s .1 .1 .1 .1 .1;
+        },
+        λ h. ((h .parent-live, (h .next-live, h .prev-live)), ((h .next, h .prev), (h .parent, (h .child, (h .first, h .top))))),
+      ))

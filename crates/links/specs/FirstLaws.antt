@@ -1,7 +1,7 @@
 -- The table of first children: what enter_firsts leaves in a table of none-links.
 -- Assumes nothing.
-use mathlib.Core.Path.{_≡_, refl, ap, sym, _∙_}
-use mathlib.Core.Bool.{Bool, true, false, _&&_, not, false≢true}
+use mathlib.Core.Path.{_≡_, refl, sym, _∙_}
+use mathlib.Core.Bool.{Bool, true, false, false≢true}
 use mathlib.Core.List.{List}
 use mathlib.Core.Logic.{_↔_, _⊎_, inl, inr, ⊎-elim}
 use Prim.Native.Nat.{ℕ, zero, suc, _≤_, _<_}
@@ -29,10 +29,11 @@ pub record Firsts (w fs : List ℕ) (n : ℕ) : Type 0 where
 -- Its front says the same.
 pub firsts-front : {w fs : List ℕ} {n : ℕ} → Firsts w fs n → Firsts w (take n fs) n
 firsts-front {w} {fs} {n} f =
-    record
-      { room = let e = length-take-le n fs (f .room) in omega arith
-      ; some = λ i c b h. rw (getD-take n fs i 0 b) (f .some i c b h)
-      ; is-first = λ i b e. let same = getD-take n fs i 0 b in rw same (f .is-first i b (rw same at e)) }
+    record {
+      room = let e = length-take-le n fs (f .room) in omega arith;
+      some = λ i c b h. rw (getD-take n fs i 0 b) (f .some i c b h);
+      is-first = λ i b e. let same = getD-take n fs i 0 b in rw same (f .is-first i b (rw same at e));
+    }
 
 module _ (w : List ℕ) (n : ℕ) (t : Table w n) where
   -- A slot that is entered at i, and a first child of i.
@@ -46,10 +47,13 @@ module _ (w : List ℕ) (n : ℕ) (t : Table w n) where
       test : Says (isFirst w n c) (Live (seen w) n c × (linkOf (nodeAt w (slot c) .prev) ≡ none) × (nodeAt w (slot c) .parent .0 < n))
       test = says-as (both-say (in-use-says (nodeAt w (slot c) .kind)) (both-say (link-none (nodeAt w (slot c) .prev)) (less-says (nodeAt w (slot c) .parent .0) n)))
           (λ s. ((d, s .0), s .1 .0, s .1 .1), λ s. (s .0 .1, (s .1, s .2)))
+
       named : Says (eqb (nodeAt w (slot c) .parent .0) i) (linkOf (nodeAt w (slot c) .parent) ≡ to i)
       named = link-to-says (nodeAt w (slot c) .parent) i (omega (arith, t .few))
+
       yes′ : Entered i c → FirstChild (seen w) n i c
       yes′ h = let s = test .0 (h .0) in record { live = s .0; parent = named .0 (eq-eqb _ _ (h .1)); prev = s .1 }
+
       no′ : FirstChild (seen w) n i c → Entered i c
       no′ h =
           let e : nodeAt w (slot c) .parent .0 ≡ i = eqb-true _ _ (named .1 (h .parent)) in
@@ -74,6 +78,7 @@ module _ (w : List ℕ) (n : ℕ) (t : Table w n) where
               at : Dec (c ≡ k) → (c < k) ⊎ (c ≡ k)
               at (yes q) = inr q
               at (no q) = inl (omega arith)
+
       go : (a : Bool) → isFirst w n k ≡ a → Dec (nodeAt w (slot k) .parent .0 ≡ i) → Says-at (suc k) i (getD (pick a (set fs (nodeAt w (slot k) .parent .0) k) fs) i 0)
       go false e d = stays (λ h. false≢true (sym e ∙ h .0))
       go true e (yes q) = rw (q, getD-set-same fs i k 0 (omega arith)) (inr (omega arith, (e, q)))
@@ -94,14 +99,15 @@ module _ (w : List ℕ) (n : ℕ) (t : Table w n) where
     pub firsts-entered : Firsts w (firstsTo w n n start) n
     unfolding Says-at
     firsts-entered =
-        record
-          { room = omega (arith, kept n)
-          ; some = λ i c b h. ⊎-elim {C = isNone (slot (at i)) ≡ false}
+        record {
+          room = omega (arith, kept n);
+          some = λ i c b h. ⊎-elim {C = isNone (slot (at i)) ≡ false}
               (λ l. absurd (l .1 c (h .live .0) (entered-first i c b (h .live .0) .1 h)))
-              (λ m. ne-eqb (at i) 4294967295 (λ e. omega (arith, m .0, t .few))) (after n i b)
-          ; is-first = λ i b e. ⊎-elim {C = FirstChild (seen w) n i (at i)}
+              (λ m. ne-eqb (at i) 4294967295 (λ e. omega (arith, m .0, t .few))) (after n i b);
+          is-first = λ i b e. ⊎-elim {C = FirstChild (seen w) n i (at i)}
               (λ l. absurd (false≢true (sym e ∙ eq-eqb (at i) 4294967295 (l .0))))
-              (λ m. entered-first i (at i) b (m .0) .0 (m .1)) (after n i b) }
+              (λ m. entered-first i (at i) b (m .0) .0 (m .1)) (after n i b);
+        }
       where
         at : ℕ → ℕ
         at i = getD (firstsTo w n n start) i 0

@@ -1,19 +1,18 @@
 -- A table's numbers as links, and its slots as live ones: what the tests of one link say.
 -- Assumes nothing.
 use mathlib.Core.Path.{_≡_, refl, ap, sym, _∙_}
-use mathlib.Core.Bool.{Bool, true, false, _&&_, _||_, not, false≢true}
+use mathlib.Core.Bool.{Bool, true, false, _||_, not}
 use mathlib.Core.List.{List}
-use Prim.Native.Nat.{ℕ, _≤_, _<_}
+use Prim.Native.Nat.{ℕ, _<_}
 use native.Mathlib.Omega.{arith}
 use lib.Dec.{eqb}
 use borrow.Author.Tests.{eqb-true, eq-eqb, ne-eqb}
-use Rattle.geometry.specs.Choice.{pick}
 use Rattle.slots.specs.Slots.{slot, isNone, sameKind, nodeAt}
 use Rattle.slots.specs.declared.AllocIndex.{AllocIndex}
 use Rattle.slots.specs.declared.NodeKind.{NodeKind}
 use Rattle.slots.specs.declared.NodeKind.the-variants.{Container, Alloc, Free, Unused}
-use Rattle.sound.specs.View.{Link, none, to, linkOf, Seen, seen, inUse, Live}
-use Rattle.links.specs.Links.{Table, liveAt, linkAt}
+use Rattle.sound.specs.View.{none, to, linkOf, seen, inUse, Live}
+use Rattle.links.specs.Links.{liveAt, linkAt}
 use Rattle.links.specs.TestLaws.{Says, both-say, less-says}
 
 pub to-inj : {i j : ℕ} → to i ≡ to j → i ≡ j
@@ -65,6 +64,7 @@ link-says l {b} P s = (yes′, no′ (isNone l) refl)
   where
     yes′ : (isNone l || b) ≡ true → (j : ℕ) → linkOf l ≡ to j → P j
     yes′ h j e = let q = link-names l j e in rw (q .1) at (s .0 (rw (q .0) at h))
+
     no′ : (c : Bool) → isNone l ≡ c → ((j : ℕ) → linkOf l ≡ to j → P j) → (isNone l || b) ≡ true
     no′ true q f = rw q
     no′ false q f = rw q (s .1 (f (l .0) (link-some l q)))

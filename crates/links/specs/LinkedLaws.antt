@@ -3,16 +3,14 @@
 use mathlib.Core.Path.{_≡_, refl, ap, sym, _∙_}
 use mathlib.Core.Bool.{true, false, false≢true}
 use mathlib.Core.List.{List}
-use Prim.Native.Nat.{ℕ, _-_, _≤_, _<_}
+use Prim.Native.Nat.{ℕ, _-_, _<_}
 use lib.ListN.{getD, take}
 use lib.Seq.{getD-take}
-use Rattle.slots.specs.Slots.{slot, isNone}
 use Rattle.slots.specs.declared.NodeKind.the-variants.{Container}
 use Rattle.steps.specs.Spares.{unusedBelow}
-use Rattle.sound.specs.View.{Link, none, to, Seen, seen, inUse, Live}
+use Rattle.sound.specs.View.{Link, to, seen, Live}
 use Rattle.sound.specs.Rules.{FirstChild}
 use Rattle.sound.specs.Sound.{Linked}
-use Rattle.forest.specs.Pigeon.{count}
 use Rattle.forest.specs.Forest.{Forest, head}
 use Rattle.forest.specs.Follows.{Follows, Local, size, down, kidsOf, nextOf, live, linked-follows, follows-linked}
 use Rattle.links.specs.Links.{Table, linksAt}
@@ -62,22 +60,23 @@ module _ (w fs : List ℕ) (n root : ℕ) (t : Table w n) (f : Firsts w fs n) wh
     -- Rule 3, but for the sentences that follow links to their end.
     pub links-at-yes : Live (seen w) n root → Local (seen w) n root
     links-at-yes r =
-        record
-          { parent-live = λ i j lv e. here i lv .parent-live j e
-          ; next-live = links-next-live
-          ; prev-live = λ i j lv e. here i lv .prev-live j e
-          ; next-prev = λ i j lv e. here i lv .next j e .0
-          ; prev-next = λ i j lv e. here i lv .prev j e
-          ; same-parent = λ i j lv e. here i lv .next j e .1 .0
-          ; same-orientation = λ i j lv e. here i lv .next j e .1 .1
-          ; parent-kind = λ i j lv e. here i lv .parent j e .0
-          ; parent-orientation = λ i j lv e. here i lv .parent j e .1
-          ; child = λ i lv k. (getD fs i 0, links-child i lv k)
-          ; one-child = λ i c d a b. sym (links-entered i c a) ∙ links-entered i d b
-          ; root-live = r
-          ; root-parent = here root r .top .1 refl .0
-          ; root-prev = here root r .top .1 refl .1
-          ; root-only = λ i lv a b. here i lv .top .0 (a, b) }
+        record {
+          parent-live = λ i j lv e. here i lv .parent-live j e;
+          next-live = links-next-live;
+          prev-live = λ i j lv e. here i lv .prev-live j e;
+          next-prev = λ i j lv e. here i lv .next j e .0;
+          prev-next = λ i j lv e. here i lv .prev j e;
+          same-parent = λ i j lv e. here i lv .next j e .1 .0;
+          same-orientation = λ i j lv e. here i lv .next j e .1 .1;
+          parent-kind = λ i j lv e. here i lv .parent j e .0;
+          parent-orientation = λ i j lv e. here i lv .parent j e .1;
+          child = λ i lv k. (getD fs i 0, links-child i lv k);
+          one-child = λ i c d a b. sym (links-entered i c a) ∙ links-entered i d b;
+          root-live = r;
+          root-parent = here root r .top .1 refl .0;
+          root-prev = here root r .top .1 refl .1;
+          root-only = λ i lv a b. here i lv .top .0 (a, b);
+        }
 
     -- The table says of each Container its one first child: what the walk over the forest goes by.
     pub links-table : (i c : ℕ) → Live (seen w) n i → seen w i .kind ≡ Container → FirstChild (seen w) n i c → to (getD fs i 0) ≡ to c
@@ -87,16 +86,17 @@ module _ (w fs : List ℕ) (n root : ℕ) (t : Table w n) (f : Firsts w fs n) wh
   pub links-at-no : Linked (seen w) n root → LinksPass w fs n root
   links-at-no L i b =
       links-at-is w fs n root t i b .1
-      (λ lv. record
-         { parent-live = λ j e. L .parent-live i j lv e
-         ; next-live = λ j e. L .next-live i j lv e
-         ; prev-live = λ j e. L .prev-live i j lv e
-         ; next = λ j e. (L .next-prev i j lv e, (L .same-parent i j lv e, L .same-orientation i j lv e))
-         ; prev = λ j e. L .prev-next i j lv e
-         ; parent = λ j e. (L .parent-kind i j lv e, L .parent-orientation i j lv e)
-         ; child = λ k. let c = L .child i lv k in f .some i (c .0) (lv .0) (c .1)
-         ; first = λ v j e. only j i (record { live = lv; parent = e; prev = v })
-         ; top = (λ a. L .root-only i lv (a .0) (a .1), λ e. rw e (L .root-parent, L .root-prev)) })
+      (λ lv. record {
+        parent-live = λ j e. L .parent-live i j lv e;
+        next-live = λ j e. L .next-live i j lv e;
+        prev-live = λ j e. L .prev-live i j lv e;
+        next = λ j e. (L .next-prev i j lv e, (L .same-parent i j lv e, L .same-orientation i j lv e));
+        prev = λ j e. L .prev-next i j lv e;
+        parent = λ j e. (L .parent-kind i j lv e, L .parent-orientation i j lv e);
+        child = λ k. let c = L .child i lv k in f .some i (c .0) (lv .0) (c .1);
+        first = λ v j e. only j i (record { live = lv; parent = e; prev = v });
+        top = (λ a. L .root-only i lv (a .0) (a .1), λ e. rw e (L .root-parent, L .root-prev));
+      })
     where
       only : (j c : ℕ) → FirstChild (seen w) n j c → getD fs j 0 ≡ c
       only j c h =
@@ -108,12 +108,17 @@ module _ (w fs : List ℕ) (n root : ℕ) (t : Table w n) (f : Firsts w fs n) wh
   links-pass-front p i b =
       links-at-is w (take n fs) n root t i b .1
       (λ lv. let h = here p i lv in
-         record
-           { parent-live = h .parent-live; next-live = h .next-live; prev-live = h .prev-live
-           ; next = h .next; prev = h .prev; parent = h .parent
-           ; child = λ k. rw (getD-take n fs i 0 b) (h .child k)
-           ; first = λ v j e. getD-take n fs j 0 (h .parent-live j e .0) ∙ h .first v j e
-           ; top = h .top })
+      record {
+        parent-live = h .parent-live;
+        next-live = h .next-live;
+        prev-live = h .prev-live;
+        next = h .next;
+        prev = h .prev;
+        parent = h .parent;
+        child = λ k. rw (getD-take n fs i 0 b) (h .child k);
+        first = λ v j e. getD-take n fs j 0 (h .parent-live j e .0) ∙ h .first v j e;
+        top = h .top;
+      })
 
   -- A slot that fails breaks rule 3.
   pub links-at-breaks : (i : ℕ) → i < n → linksAt w fs n root i ≡ false → Linked (seen w) n root → ⊥

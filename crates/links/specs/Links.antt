@@ -1,7 +1,7 @@
 -- Rules 2, 3 and 4 as tests of one slot. LinkLaws says that they are the rules.
 -- Assumes nothing.
 use mathlib.Core.Path.{_≡_}
-use mathlib.Core.Bool.{Bool, true, false, _&&_, _||_, not}
+use mathlib.Core.Bool.{Bool, false, _&&_, _||_, not}
 use mathlib.Core.List.{List}
 use Prim.Native.Nat.{ℕ, zero, suc, _*_, _≤_, _<_}
 use lib.ListN.{length, getD, set}

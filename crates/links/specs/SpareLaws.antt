@@ -1,19 +1,19 @@
 -- The number of Unused slots as a count, and rule 2: the walk over the spare chain decides it.
 -- Assumes nothing.
-use mathlib.Core.Path.{_≡_, refl, ap, sym, _∙_}
-use mathlib.Core.Bool.{Bool, true, false, _&&_, not}
-use mathlib.Core.Logic.{_⊎_, ⊎-elim}
+use mathlib.Core.Path.{_≡_, refl, ap, _∙_}
+use mathlib.Core.Bool.{Bool, true, false, not}
+use mathlib.Core.Logic.{⊎-elim}
 use mathlib.Core.List.{List}
-use Prim.Native.Nat.{ℕ, zero, suc, _+_, _-_, _≤_, _<_}
+use Prim.Native.Nat.{ℕ, zero, suc, _+_, _-_, _<_}
 use native.Mathlib.Omega.{arith}
 use Rattle.geometry.specs.Choice.{pick}
-use Rattle.slots.specs.Slots.{slot, isNone, sameKind, nodeAt}
+use Rattle.slots.specs.Slots.{slot, nodeAt}
 use Rattle.slots.specs.SlotLaws.{same-kind-equal}
 use Rattle.slots.specs.declared.AllocIndex.{AllocIndex}
 use Rattle.slots.specs.declared.NodeKind.{NodeKind}
 use Rattle.slots.specs.declared.NodeKind.the-variants.{Unused}
 use Rattle.steps.specs.Spares.{unusedAt, unusedBelow}
-use Rattle.sound.specs.View.{Link, none, to, linkOf, Seen, seen, inUse, Dead}
+use Rattle.sound.specs.View.{Link, to, linkOf, seen, inUse, Dead}
 use Rattle.sound.specs.Rules.{Visits, it, later}
 use Rattle.sound.specs.Sound.{SpareChain}
 use Rattle.forest.specs.Pigeon.{bit, count}
@@ -66,10 +66,12 @@ module _ (w : List ℕ) (n : ℕ) (t : Table w n) where
     where
       Turn : Type 0
       Turn = (l .0 < n) × ((nodeAt w l .kind ≡ Unused) × Chain (linkOf (nodeAt w l .next)) k)
+
       on : Turn → Chain (linkOf l) (suc k)
       on p =
           let e : linkOf l ≡ to (l .0) = link-of-slot (l .0) (omega (arith, t .few)) in
           ((l .0, e, p .1 .1 .0), λ a v. ⊎-elim {C = Dead (seen w) n a} (λ q. rw q (p .0, ap inUse (p .1 .0))) (p .1 .1 .1 a) (visits-step v (l .0) e))
+
       back : Chain (linkOf l) (suc k) → Turn
       back c =
           let names = link-names l (c .0 .0) (c .0 .1) in

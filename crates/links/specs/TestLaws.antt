@@ -5,7 +5,7 @@ use mathlib.Core.Bool.{Bool, true, false, _&&_, _||_, not, false≢true}
 use mathlib.Core.Logic.{_↔_}
 use Prim.Native.Nat.{ℕ, _<_}
 use lib.Dec.{eqb, ltb}
-use borrow.Author.Tests.{ltb-true, lt-ltb, eqb-true, eq-eqb, not-true}
+use borrow.Author.Tests.{ltb-true, lt-ltb, eqb-true, eq-eqb, not-true, not-false}
 use Rattle.geometry.specs.Choice.{pick}
 use Rattle.geometry.specs.declared.Orientation.{Orientation}
 use Rattle.geometry.specs.declared.Orientation.the-variants.{Vertical, Horizontal}
@@ -26,6 +26,13 @@ refuted {b} s r = go b refl
     go : (c : Bool) → b ≡ c → b ≡ false
     go true e = absurd (r (s .0 e))
     go false e = e
+
+-- What a test in the code that was negated says of its model.
+pub passed : {r b : Bool} → r ≡ b → not r ≡ false → b ≡ true
+passed {r} e h = sym e ∙ not-false r h
+
+pub failed : {r b : Bool} → r ≡ b → not r ≡ true → b ≡ false
+failed {r} e h = sym e ∙ not-true r h
 
 -- Both, and the second where the first.
 pub both-say : {a b : Bool} {A B : Type 0} → Says a A → Says b B → Says (a && b) (A × B)

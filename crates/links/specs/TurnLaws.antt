@@ -1,15 +1,15 @@
 -- What a turn of each loop makes of its model, and what the tests of a slot's links allow to be fetched: for the proofs of the functions.
 -- Assumes nothing.
-use mathlib.Core.Path.{_≡_, refl, ap, sym, _∙_}
-use mathlib.Core.Bool.{Bool, true, false, _&&_, not}
+use mathlib.Core.Path.{_≡_, refl}
+use mathlib.Core.Bool.{true, false, _&&_, not}
 use mathlib.Core.List.{List}
-use Prim.Native.Nat.{ℕ, zero, suc, _+_, _-_, _*_, _≤_, _<_}
+use Prim.Native.Nat.{ℕ, zero, suc, _+_, _-_, _≤_, _<_}
 use native.Mathlib.Numerals.{add-one}
 use native.Mathlib.Omega.{arith}
 use lib.ListN.{length, length-set}
 use lib.Dec.{ltb}
 use borrow.Author.Tests.{ltb-true, lt-ltb, le-ltb}
-use Rattle.geometry.specs.Choice.{pick, pick-elim}
+use Rattle.geometry.specs.Choice.{pick-elim}
 use Rattle.geometry.specs.TestLaws.{and-true-each}
 use Rattle.slots.specs.Slots.{slot, isNone, sameKind, nodeAt}
 use Rattle.slots.specs.declared.AllocIndex.{AllocIndex}

@@ -1,8 +1,7 @@
 -- `links::child_agrees` meets its contract: each answer rewrites `childAgrees` with the test that led there.
 -- Assumes nothing.
-use mathlib.Core.Path.{sym, _∙_}
-use borrow.Author.Tests.{not-true, not-false}
 use borrow.Author.Needs.{needs}
+use Rattle.links.specs.TestLaws.{passed, failed}
 use Rattle.links.specs.Links.{childAgrees}
 use Rattle.links.proofs.child_agrees.Statement.{statement}
 use Rattle.links.proofs.child_agrees.Tie as tie
@@ -12,7 +11,7 @@ same-kind-requires c κs = search needs
 
 returns : tie.Need-returns
 unfolding childAgrees
-returns c = rw (sym (c .before .same-kind .ensures) ∙ not-true _ (c .if1 .taken))
+returns c = rw (failed (c .before .same-kind .ensures) (c .if1 .taken))
 
 cast-at : tie.Need-cast-at
 cast-at c = search needs
@@ -28,7 +27,12 @@ is-none-requires c κs = search needs
 
 returns-2 : tie.Need-returns-2
 unfolding childAgrees
-returns-2 c = rw (sym (c .before .before .before .before .same-kind .ensures) ∙ not-false _ (c .before .before .before .if1 .left), c .is-none .ensures)
+returns-2 c =
+    let kind = c .before .before .before in
+    rw (
+      passed (kind .before .same-kind .ensures) (kind .if1 .left),
+      c .is-none .ensures,
+    )
 
 pub child-agrees-spec : {M : Type 1} → statement M
 child-agrees-spec =

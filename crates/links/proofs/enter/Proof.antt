@@ -21,14 +21,19 @@ mul-firsts : tie.Need-mul-firsts
 mul-firsts c = search needs
 
 slice-write-firsts : tie.Need-slice-write-firsts
-slice-write-firsts c = let h = first-parent _ _ _ (sym (c .before .before .before .before .is-first .ensures) ∙ c .before .before .before .if1 .taken) in rw (c .before .before .node-at .ensures) (omega arith)
+slice-write-firsts c =
+    let first = c .before .before .before in
+    let h = first-parent _ _ _ (sym (first .before .is-first .ensures) ∙ first .if1 .taken) in
+    rw (c .before .before .node-at .ensures) (omega arith)
 
 same-length : tie.Need-same-length
 same-length c = search needs
 
 returns : tie.Need-returns
 unfolding entered
-returns c = rw (sym (c .before .before .before .before .is-first .ensures) ∙ c .before .before .before .if1 .taken, c .before .before .node-at .ensures)
+returns c =
+    let first = c .before .before .before in
+    rw (sym (first .before .is-first .ensures) ∙ first .if1 .taken, c .before .before .node-at .ensures)
 
 returns-2 : tie.Need-returns-2
 unfolding entered

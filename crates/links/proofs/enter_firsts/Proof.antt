@@ -4,8 +4,8 @@ use mathlib.Core.Path.{_≡_, refl, _∙_}
 use Prim.Native.Nat.{_≤_, _-_}
 use native.Mathlib.Omega.{arith}
 use lib.ListN.{length}
-use Rattle.links.specs.Links.{firstsTo}
 use Rattle.links.specs.TurnLaws.{firsts-more}
+use Rattle.links.specs.Links.{firstsTo}
 use Rattle.links.proofs.enter_firsts.Tie as tie
 use Rattle.links.proofs.enter_firsts.Statement.{statement}
 
@@ -29,7 +29,11 @@ loop-less : tie.Need-loop-less Inv-loop μ-loop
 loop-less c = omega arith
 
 loop-again : tie.Need-loop-again Inv-loop μ-loop
-loop-again c = (omega arith, c .before .before .enter .ensures ∙ rw (c .before .before .before .before .before .loop .inv .1) (firsts-more _ _ _ _), c .before .before .enter .kept .1 .0 ∙ c .before .before .before .before .before .loop .inv .2)
+loop-again c = (
+  omega arith,
+  c .before .before .enter .ensures ∙ rw (c .before .before .before .before .before .loop .inv .1) (firsts-more _ _ _ _),
+  c .before .before .enter .kept .1 .0 ∙ c .before .before .before .before .before .loop .inv .2,
+)
 
 same-length : tie.Need-same-length Inv-loop μ-loop
 same-length c = c .before .loop .inv .2

@@ -1,9 +1,9 @@
 -- `links::is_first` meets its contract: each answer rewrites `isFirst` with the tests that led there.
 -- Assumes nothing.
 use mathlib.Core.Path.{sym, _∙_}
-use borrow.Author.Tests.{not-true, not-false}
 use borrow.Author.Needs.{needs}
 use Rattle.links.specs.Links.{isFirst}
+use Rattle.links.specs.TestLaws.{passed, failed}
 use Rattle.links.proofs.is_first.Tie as tie
 use Rattle.links.proofs.is_first.Statement.{statement}
 
@@ -22,11 +22,24 @@ is-none-requires c κs = search needs
 
 returns-2 : tie.Need-returns-2
 unfolding isFirst
-returns-2 c = rw (← c .before .before .before .before .before .node-at .ensures, sym (c .before .before .before .before .same-kind .ensures) ∙ c .before .before .before .if1 .left, sym (c .before .is-none .ensures) ∙ not-true _ (c .if2 .taken))
+returns-2 c =
+    let live = c .before .before .before in
+    rw (
+      ← live .before .before .node-at .ensures,
+      sym (live .before .same-kind .ensures) ∙ live .if1 .left,
+      failed (c .before .is-none .ensures) (c .if2 .taken),
+    )
 
 returns-3 : tie.Need-returns-3
 unfolding isFirst
-returns-3 c = rw (← c .before .before .before .before .before .before .before .node-at .ensures, sym (c .before .before .before .before .before .before .same-kind .ensures) ∙ c .before .before .before .before .before .if1 .left, sym (c .before .before .before .is-none .ensures) ∙ not-false _ (c .before .before .if2 .left))
+returns-3 c =
+    let first = c .before .before in
+    let live = first .before .before .before in
+    rw (
+      ← live .before .before .node-at .ensures,
+      sym (live .before .same-kind .ensures) ∙ live .if1 .left,
+      passed (first .before .is-none .ensures) (first .if2 .left),
+    )
 
 pub is-first-spec : {M : Type 1} → statement M
 is-first-spec =

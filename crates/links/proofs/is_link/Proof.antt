@@ -3,8 +3,8 @@
 use mathlib.Core.Path.{sym, _∙_}
 use borrow.Author.Needs.{needs}
 use Rattle.links.specs.Links.{linkAt}
-use Rattle.links.proofs.is_link.Tie as tie
 use Rattle.links.proofs.is_link.Statement.{statement}
+use Rattle.links.proofs.is_link.Tie as tie
 
 is-none-requires : tie.Need-is-none-requires
 is-none-requires c κs = search needs

@@ -19,11 +19,23 @@ same-kind-requires c κs = search needs
 
 returns-2 : tie.Need-returns-2
 unfolding liveAt
-returns-2 c = rw (lt-ltb _ _ (c .before .before .before .if1 .left), ← c .before .before .node-at .ensures, sym (c .before .same-kind .ensures) ∙ c .if2 .taken)
+returns-2 c =
+    let below = c .before .before .before in
+    rw (
+      lt-ltb _ _ (below .if1 .left),
+      ← c .before .before .node-at .ensures,
+      sym (c .before .same-kind .ensures) ∙ c .if2 .taken,
+    )
 
 returns-3 : tie.Need-returns-3
 unfolding liveAt
-returns-3 c = rw (lt-ltb _ _ (c .before .before .before .if1 .left), ← c .before .before .node-at .ensures, sym (c .before .same-kind .ensures) ∙ c .if2 .left)
+returns-3 c =
+    let below = c .before .before .before in
+    rw (
+      lt-ltb _ _ (below .if1 .left),
+      ← c .before .before .node-at .ensures,
+      sym (c .before .same-kind .ensures) ∙ c .if2 .left,
+    )
 
 pub is-live-spec : {M : Type 1} → statement M
 is-live-spec = tie.close (tie.spec returns node-at-requires same-kind-requires returns-2 returns-3)

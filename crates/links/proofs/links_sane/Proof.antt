@@ -1,8 +1,7 @@
 -- `links::links_sane` meets its contract: each answer rewrites `linksSane` with the tests that led there.
 -- Assumes nothing.
-use mathlib.Core.Path.{sym, _∙_}
-use borrow.Author.Tests.{not-true, not-false}
 use borrow.Author.Needs.{needs}
+use Rattle.links.specs.TestLaws.{passed, failed}
 use Rattle.links.specs.Links.{linksSane}
 use Rattle.links.proofs.links_sane.Tie as tie
 use Rattle.links.proofs.links_sane.Statement.{statement}
@@ -12,21 +11,33 @@ is-link-requires c κs = search needs
 
 returns : tie.Need-returns
 unfolding linksSane
-returns c = rw (sym (c .before .is-link .ensures) ∙ not-true _ (c .if1 .taken))
+returns c = rw (failed (c .before .is-link .ensures) (c .if1 .taken))
 
 is-link-requires-2 : tie.Need-is-link-requires-2
 is-link-requires-2 c κs = search needs
 
 returns-2 : tie.Need-returns-2
 unfolding linksSane
-returns-2 c = rw (sym (c .before .before .before .is-link .ensures) ∙ not-false _ (c .before .before .if1 .left), sym (c .before .is-link2 .ensures) ∙ not-true _ (c .if2 .taken))
+returns-2 c =
+    let parent = c .before .before in
+    rw (
+      passed (parent .before .is-link .ensures) (parent .if1 .left),
+      failed (c .before .is-link2 .ensures) (c .if2 .taken),
+    )
 
 is-link-requires-3 : tie.Need-is-link-requires-3
 is-link-requires-3 c κs = search needs
 
 returns-3 : tie.Need-returns-3
 unfolding linksSane
-returns-3 c = rw (sym (c .before .before .before .before .is-link .ensures) ∙ not-false _ (c .before .before .before .if1 .left), sym (c .before .before .is-link2 .ensures) ∙ not-false _ (c .before .if2 .left), c .is-link3 .ensures)
+returns-3 c =
+    let next = c .before in
+    let parent = next .before .before in
+    rw (
+      passed (parent .before .is-link .ensures) (parent .if1 .left),
+      passed (next .before .is-link2 .ensures) (next .if2 .left),
+      c .is-link3 .ensures,
+    )
 
 pub links-sane-spec : {M : Type 1} → statement M
 links-sane-spec =

@@ -1,11 +1,12 @@
 -- `links::merged_at` meets its contract: each answer rewrites `mergedAt` with the tests that led there.
 -- Assumes nothing.
 use mathlib.Core.Path.{sym, _∙_}
-use borrow.Author.Tests.{lt-leb, le-leb, not-true, not-false}
+use borrow.Author.Tests.{lt-leb, le-leb}
 use borrow.Author.Needs.{needs}
 use Rattle.links.specs.Links.{mergedAt}
-use Rattle.links.proofs.merged_at.Statement.{statement}
+use Rattle.links.specs.TestLaws.{passed, failed}
 use Rattle.links.proofs.merged_at.Tie as tie
+use Rattle.links.proofs.merged_at.Statement.{statement}
 
 node-at-requires : tie.Need-node-at-requires
 node-at-requires c κs = search needs
@@ -15,7 +16,7 @@ same-kind-requires c κs = search needs
 
 returns : tie.Need-returns
 unfolding mergedAt
-returns c = rw (← c .before .before .node-at .ensures, sym (c .before .same-kind .ensures) ∙ not-true _ (c .if1 .taken))
+returns c = rw (← c .before .before .node-at .ensures, failed (c .before .same-kind .ensures) (c .if1 .taken))
 
 is-none-requires : tie.Need-is-none-requires
 is-none-requires c κs = search needs
@@ -25,11 +26,28 @@ is-none-requires-2 c κs = search needs
 
 returns-2 : tie.Need-returns-2
 unfolding mergedAt
-returns-2 c = rw (← c .before .before .before .before .before .before .before .before .before .before .node-at .ensures, sym (c .before .before .before .before .before .before .before .before .before .same-kind .ensures) ∙ not-false _ (c .before .before .before .before .before .before .before .before .if1 .left), le-leb _ _ (c .before .before .before .if2 .taken), sym (c .before .before .is-none .ensures) ∙ c .before .if3 .taken, c .is-none2 .ensures)
+returns-2 c =
+    let last = c .before .before .before in
+    let free = last .before .before .before .before .before in
+    rw (
+      ← free .before .before .node-at .ensures,
+      passed (free .before .same-kind .ensures) (free .if1 .left),
+      le-leb _ _ (last .if2 .taken),
+      sym (c .before .before .is-none .ensures) ∙ c .before .if3 .taken,
+      c .is-none2 .ensures,
+    )
 
 returns-3 : tie.Need-returns-3
 unfolding mergedAt
-returns-3 c = rw (← c .before .before .before .before .before .before .before .before .before .node-at .ensures, sym (c .before .before .before .before .before .before .before .before .same-kind .ensures) ∙ not-false _ (c .before .before .before .before .before .before .before .if1 .left), le-leb _ _ (c .before .before .if2 .taken), sym (c .before .is-none .ensures) ∙ c .if3 .left)
+returns-3 c =
+    let last = c .before .before in
+    let free = last .before .before .before .before .before in
+    rw (
+      ← free .before .before .node-at .ensures,
+      passed (free .before .same-kind .ensures) (free .if1 .left),
+      le-leb _ _ (last .if2 .taken),
+      sym (c .before .is-none .ensures) ∙ c .if3 .left,
+    )
 
 node-at-requires-2 : tie.Need-node-at-requires-2
 node-at-requires-2 c κs = search needs
@@ -39,7 +57,16 @@ same-kind-requires-2 c κs = search needs
 
 returns-4 : tie.Need-returns-4
 unfolding mergedAt
-returns-4 c = rw (← c .before .before .before .before .before .before .before .before .before .node-at .ensures, sym (c .before .before .before .before .before .before .before .before .same-kind .ensures) ∙ not-false _ (c .before .before .before .before .before .before .before .if1 .left), lt-leb _ _ (c .before .before .if2 .left), c .same-kind2 .ensures, c .before .node-at2 .ensures)
+returns-4 c =
+    let more = c .before .before in
+    let free = more .before .before .before .before .before in
+    rw (
+      ← free .before .before .node-at .ensures,
+      passed (free .before .same-kind .ensures) (free .if1 .left),
+      lt-leb _ _ (more .if2 .left),
+      c .same-kind2 .ensures,
+      c .before .node-at2 .ensures,
+    )
 
 pub merged-at-spec : {M : Type 1} → statement M
 merged-at-spec =

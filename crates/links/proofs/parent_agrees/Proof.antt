@@ -1,9 +1,9 @@
 -- `links::parent_agrees` meets its contract: each answer rewrites `parentAgrees` with the tests that led there.
 -- Assumes nothing.
 use mathlib.Core.Path.{sym, _∙_}
-use borrow.Author.Tests.{not-true, not-false}
 use borrow.Author.Needs.{needs}
 use Rattle.links.specs.Links.{parentAgrees}
+use Rattle.links.specs.TestLaws.{passed, failed}
 use Rattle.links.proofs.parent_agrees.Statement.{statement}
 use Rattle.links.proofs.parent_agrees.Tie as tie
 
@@ -22,7 +22,13 @@ same-kind-requires c κs = search needs
 
 returns-2 : tie.Need-returns-2
 unfolding parentAgrees
-returns-2 c = rw (sym (c .before .before .before .before .is-none .ensures) ∙ c .before .before .before .if1 .left, ← c .before .before .node-at .ensures, sym (c .before .same-kind .ensures) ∙ not-true _ (c .if2 .taken))
+returns-2 c =
+    let some = c .before .before .before in
+    rw (
+      sym (some .before .is-none .ensures) ∙ some .if1 .left,
+      ← c .before .before .node-at .ensures,
+      failed (c .before .same-kind .ensures) (c .if2 .taken),
+    )
 
 flipped-requires : tie.Need-flipped-requires
 flipped-requires c κs = search needs
@@ -32,7 +38,16 @@ same-orientation-requires c κs = search needs
 
 returns-3 : tie.Need-returns-3
 unfolding parentAgrees
-returns-3 c = rw (sym (c .before .before .before .before .before .before .is-none .ensures) ∙ c .before .before .before .before .before .if1 .left, ← c .before .before .before .before .node-at .ensures, sym (c .before .before .before .same-kind .ensures) ∙ not-false _ (c .before .before .if2 .left), c .same-orientation .ensures, c .before .flipped .ensures)
+returns-3 c =
+    let kind = c .before .before in
+    let some = kind .before .before .before in
+    rw (
+      sym (some .before .is-none .ensures) ∙ some .if1 .left,
+      ← kind .before .before .node-at .ensures,
+      passed (kind .before .same-kind .ensures) (kind .if2 .left),
+      c .same-orientation .ensures,
+      c .before .flipped .ensures,
+    )
 
 pub parent-agrees-spec : {M : Type 1} → statement M
 parent-agrees-spec =

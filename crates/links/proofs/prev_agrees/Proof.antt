@@ -3,8 +3,8 @@
 use mathlib.Core.Path.{sym, _∙_}
 use borrow.Author.Needs.{needs}
 use Rattle.links.specs.Links.{prevAgrees}
-use Rattle.links.proofs.prev_agrees.Statement.{statement}
 use Rattle.links.proofs.prev_agrees.Tie as tie
+use Rattle.links.proofs.prev_agrees.Statement.{statement}
 
 is-none-requires : tie.Need-is-none-requires
 is-none-requires c κs = search needs
@@ -18,7 +18,12 @@ node-at-requires c κs = c .before .before .before .before .pre (sym (c .before 
 
 returns-2 : tie.Need-returns-2
 unfolding prevAgrees
-returns-2 c = rw (sym (c .before .before .before .before .is-none .ensures) ∙ c .before .before .before .if1 .left, c .before .before .node-at .ensures)
+returns-2 c =
+    let some = c .before .before .before in
+    rw (
+      sym (some .before .is-none .ensures) ∙ some .if1 .left,
+      c .before .before .node-at .ensures,
+    )
 
 pub prev-agrees-spec : {M : Type 1} → statement M
 prev-agrees-spec = tie.close (tie.spec is-none-requires returns node-at-requires returns-2)
