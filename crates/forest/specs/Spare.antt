@@ -1,20 +1,16 @@
--- Rule 2: the spare chain, and a walk that decides it.
+-- Rule 2: the spare chain is a chain that ends, that visits Unused slots alone and passes as many as there are.
 -- Assumes nothing.
-use Prim.Native.Nat.{ℕ, zero, suc, _+_, _-_, _≤_, _<_}
-use mathlib.Core.Path.{_≡_, refl, sym, _∙_, ap}
-use mathlib.Core.Bool.{Bool, true, false, false≢true, true≢false}
+use Prim.Native.Nat.{ℕ, zero, suc, _<_}
+use mathlib.Core.Path.{_≡_, refl, ap}
+use mathlib.Core.Bool.{Bool, true, not}
 use mathlib.Core.Logic.{_⊎_, inl, inr, ⊎-elim}
-use mathlib.Core.List.{List, [], _∷_, _++_}
 use native.Mathlib.Omega.{arith}
-use native.Mathlib.Decide.{decLt}
-use lib.ListN.{length}
-use Rattle.slots.specs.declared.NodeKind.{NodeKind}
-use Rattle.slots.specs.declared.NodeKind.the-variants.{Container, Alloc, Free, Unused}
+use borrow.Author.Tests.{not-true}
 use Rattle.sound.specs.View.{Link, none, to, Seen, inUse, Dead}
-use Rattle.sound.specs.Rules.{Ends, Visits, it, later}
+use Rattle.sound.specs.Rules.{Ends, onward, Visits, it, later}
 use Rattle.sound.specs.Sound.{SpareChain}
-use Rattle.forest.specs.Pigeon.{In, Distinct, count, pigeon, pigeon-all, cover-length}
-use Rattle.forest.specs.Ends.{EndsIn, ends-in, in-ends, ends-bounded, path, path-length, path-distinct, path-stays}
+use Rattle.forest.specs.Pigeon.{In, count, pigeon, pigeon-all, cover-length}
+use Rattle.forest.specs.Ends.{EndsIn, ends-in, in-ends, path, path-length, path-distinct}
 
 -- What a path has, and what following it visits, are the same slots.
 path-visits : (f : ℕ → Link) (l : Link) (k : ℕ) (e : EndsIn f l k) (a : ℕ) → In a (path f l k e) → Visits f a l
@@ -23,14 +19,16 @@ path-visits f l zero e a h = absurd h
 path-visits f l (suc k) e a h =
     rw (e .1) (⊎-elim {C = Visits f a (to (e .0))} (λ q. rw (← q) it) (λ m. later {i = e .0} (path-visits f (f (e .0)) k (e .2) a m)) h)
 
-none-visits : {f : ℕ → Link} {a : ℕ} {l : Link} → Visits f a l → l ≡ none → ⊥
+-- Following none visits nothing.
+pub none-visits : {f : ℕ → Link} {a : ℕ} {l : Link} → Visits f a l → l ≡ none → ⊥
 none-visits it e = let z : _≡_ {A = ℕ} 0 1 = cc in omega arith
 none-visits (later v) e = let z : _≡_ {A = ℕ} 0 1 = cc in omega arith
 
 to-inj : {i j : ℕ} → to i ≡ to j → i ≡ j
 to-inj p = cc
 
-visits-step : {f : ℕ → Link} {a : ℕ} {l : Link} → Visits f a l → (i : ℕ) → l ≡ to i → (a ≡ i) ⊎ Visits f a (f i)
+-- Following a link to slot i visits i, and what following i's own link visits.
+pub visits-step : {f : ℕ → Link} {a : ℕ} {l : Link} → Visits f a l → (i : ℕ) → l ≡ to i → (a ≡ i) ⊎ Visits f a (f i)
 visits-step it i e = inl (to-inj e)
 visits-step {f} {a} (later {i = j} v) i e = inr (rw (to-inj e) at v)
 
@@ -40,89 +38,53 @@ visits-path f l zero e a v = none-visits v e
 visits-path f l (suc k) e a v =
     ⊎-elim {C = In a (path f l (suc k) e)} inl (λ w. inr (visits-path f (f (e .0)) k (e .2) a w)) (visits-step v (e .0) (e .1))
 
--- The walk: it goes on at Unused slots below n, spends one of the count at each, and must end with nothing left.
-abbrev not′ : Bool → Bool
-not′ true = false
-not′ false = true
+-- A chain that ends, ends from each slot that it visits.
+ends-from : {f : ℕ → Link} {a : ℕ} {l : Link} → Ends f l → Visits f a l → Ends f (to a)
+ends-from e it = e
+ends-from (onward e) (later v) = ends-from e v
 
-abbrev isLess : {A : Type 0} → Dec A → Bool
-isLess (yes h) = true
-isLess (no h) = false
-
-abbrev andB : Bool → Bool → Bool
-andB true b = b
-andB false b = false
-
-unfoldable pub spareWalk : (ℕ → Seen) → ℕ → ℕ → Link → Bool
-spareWalk get n zero none = true
-spareWalk get n zero (to i) = false
-spareWalk get n (suc k) none = false
-spareWalk get n (suc k) (to i) = andB (isLess (decLt i n)) (andB (not′ (inUse (get i .kind))) (spareWalk get n k (get i .next)))
-
-and-both : (a b : Bool) → andB a b ≡ true → (a ≡ true) × (b ≡ true)
-and-both true b e = (refl, e)
-and-both false b e = absurd (false≢true e)
-
-less-true : (i n : ℕ) → isLess (decLt i n) ≡ true → i < n
-less-true i n e = go (decLt i n) e
+-- A chain that ends visits no slot twice: following the link of a slot that it visits doesn't come back to the slot.
+pub chain-visits-once : {f : ℕ → Link} {l : Link} → Ends f l → (a : ℕ) → Visits f a l → Visits f a (f a) → ⊥
+unfolding path
+chain-visits-once {f} e a v again = go (ends-in (ends-from e v))
   where
-    go : (d : Dec (i < n)) → isLess d ≡ true → i < n
-    go (yes h) e = h
-    go (no h) e = absurd (false≢true e)
+    go : (k : ℕ) × EndsIn f (to a) k → ⊥
+    go (zero, r) = let z : _≡_ {A = ℕ} 0 1 = cc in omega arith
+    go (suc k, r) =
+        let h : EndsIn f (f a) k = rw (← to-inj (r .1)) at (r .2) in
+        path-distinct f (to a) (suc k) (a, refl, h) .0 (visits-path f (f a) k h a again)
 
-true-less : (i n : ℕ) → i < n → isLess (decLt i n) ≡ true
-true-less i n h = go (decLt i n)
-  where
-    go : (d : Dec (i < n)) → isLess d ≡ true
-    go (yes x) = refl
-    go (no x) = absurd (x h)
+-- An Unused slot.
+abbrev pub isDead : (ℕ → Seen) → ℕ → Bool
+isDead get j = not (inUse (get j .kind))
 
-not-on : (b : Bool) → not′ b ≡ true → b ≡ false
-not-on true e = absurd (false≢true e)
-not-on false e = refl
-
-module _ (get : ℕ → Seen) (n : ℕ) where
-  walk-ends : (k : ℕ) (l : Link) → spareWalk get n k l ≡ true → EndsIn (λ j. get j .next) l k × ((a : ℕ) → Visits (λ j. get j .next) a l → Dead get n a)
-  unfolding spareWalk
-  walk-ends zero none e = (refl, λ a v. absurd (none-visits v refl))
-  walk-ends zero (to i) e = absurd (false≢true e)
-  walk-ends (suc k) none e = absurd (false≢true e)
-  walk-ends (suc k) (to i) e =
-      let x = and-both (isLess (decLt i n)) _ e in
-      let y = and-both (not′ (inUse (get i .kind))) _ (x .1) in
-      let r = walk-ends k (get i .next) (y .1) in
-      ((i, refl, r .0),
-       λ a v. ⊎-elim {C = Dead get n a} (λ q. rw q (less-true i n (x .0), not-on _ (y .0))) (r .1 a) (visits-step v i refl))
-
-  ends-walk : (k : ℕ) (l : Link) → EndsIn (λ j. get j .next) l k → ((a : ℕ) → Visits (λ j. get j .next) a l → Dead get n a) → spareWalk get n k l ≡ true
-  unfolding spareWalk
-  ends-walk zero l e d = rw e refl
-  ends-walk (suc k) l e d =
-      let h = d (e .0) (rw (e .1) it) in
-      rw (e .1, true-less (e .0) n (h .0), h .1)
-      (ends-walk k (get (e .0) .next) (e .2) (λ a v. d a (rw (e .1) (later {i = e .0} v))))
-
-  -- EXACT, with as many slots to spend as are Unused.
-  pub spare-yes : (l : Link) → SpareChain get n l → spareWalk get n (count (λ j. not′ (inUse (get j .kind))) n) l ≡ true
-  spare-yes l S =
+module _ (get : ℕ → Seen) (n : ℕ) (l : Link) where
+  -- The spare chain passes as many slots as are Unused.
+  pub spare-steps : SpareChain get n l → EndsIn (λ j. get j .next) l (count (isDead get) n)
+  spare-steps S =
+      let f : ℕ → Link = λ j. get j .next in
       let e = ends-in (S .ends) in
-      let ps = path (λ j. get j .next) l (e .0) (e .1) in
-      let dead : (a : ℕ) → In a ps → (a < n) × (not′ (inUse (get a .kind)) ≡ true) =
-              λ a m. (S .only a (path-visits (λ j. get j .next) l (e .0) (e .1) a m) .0, ap not′ (S .only a (path-visits (λ j. get j .next) l (e .0) (e .1) a m) .1)) in
-      let up = pigeon (λ j. not′ (inUse (get j .kind))) n ps (path-distinct (λ j. get j .next) l (e .0) (e .1)) dead in
-      let dn = cover-length ps (λ j. not′ (inUse (get j .kind))) n
-              (λ i a b. visits-path (λ j. get j .next) l (e .0) (e .1) i (S .each i (a, not-on _ b))) in
-      let same : count (λ j. not′ (inUse (get j .kind))) n ≡ e .0 = omega (arith, path-length (λ j. get j .next) l (e .0) (e .1), up, dn) in
-      rw same (ends-walk (e .0) l (e .1) (S .only))
+      let dead : (a : ℕ) → In a (path f l (e .0) (e .1)) → (a < n) × (isDead get a ≡ true) =
+      λ a m. let d = S .only a (path-visits f l (e .0) (e .1) a m) in (d .0, ap not (d .1)) in
+      let up = pigeon (isDead get) n (path f l (e .0) (e .1)) (path-distinct f l (e .0) (e .1)) dead in
+      let down = cover-length (path f l (e .0) (e .1)) (isDead get) n (λ i a b. visits-path f l (e .0) (e .1) i (S .each i (a, not-true _ b))) in
+      let same : count (isDead get) n ≡ e .0 = omega (arith, path-length f l (e .0) (e .1), up, down) in
+      rw same (e .1)
 
-  pub spare-no : (l : Link) → spareWalk get n (count (λ j. not′ (inUse (get j .kind))) n) l ≡ true → SpareChain get n l
-  spare-no l e =
-      let w = walk-ends (count (λ j. not′ (inUse (get j .kind))) n) l e in
-      record
-        { ends = in-ends (λ j. get j .next) l (count (λ j. not′ (inUse (get j .kind))) n) (w .0)
-        ; only = w .1
-        ; each = λ i d. path-visits (λ j. get j .next) l (count (λ j. not′ (inUse (get j .kind))) n) (w .0) i
-            (pigeon-all (λ j. not′ (inUse (get j .kind))) n (path (λ j. get j .next) l (count (λ j. not′ (inUse (get j .kind))) n) (w .0))
-              (path-distinct (λ j. get j .next) l (count (λ j. not′ (inUse (get j .kind))) n) (w .0))
-              (λ a m. let q = w .1 a (path-visits (λ j. get j .next) l (count (λ j. not′ (inUse (get j .kind))) n) (w .0) a m) in (q .0, ap not′ (q .1)))
-              (path-length (λ j. get j .next) l (count (λ j. not′ (inUse (get j .kind))) n) (w .0)) i (d .0) (ap not′ (d .1))) }
+  -- A chain of Unused slots that passes as many as there are is the spare chain.
+  pub steps-spare : EndsIn (λ j. get j .next) l (count (isDead get) n) → ((a : ℕ) → Visits (λ j. get j .next) a l → Dead get n a) → SpareChain get n l
+  steps-spare e only = record { ends = in-ends f l k e; only = only; each = each }
+    where
+      f : ℕ → Link
+      f j = get j .next
+
+      k : ℕ
+      k = count (isDead get) n
+
+      dead : (a : ℕ) → In a (path f l k e) → (a < n) × (isDead get a ≡ true)
+      dead a m = let d = only a (path-visits f l k e a m) in (d .0, ap not (d .1))
+
+      each : (i : ℕ) → Dead get n i → Visits f i l
+      each i d =
+          path-visits f l k e i
+          (pigeon-all (isDead get) n (path f l k e) (path-distinct f l k e) dead (path-length f l k e) i (d .0) (ap not (d .1)))

@@ -1,1 +1,9 @@
 pub mod Links
+pub mod TurnLaws
+pub mod TestLaws
+pub mod LinkLaws
+pub mod FirstLaws
+pub mod SpareLaws
+pub mod AgreeLaws
+pub mod LinkedLaws
+pub mod MergedLaws

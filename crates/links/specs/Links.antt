@@ -1,7 +1,7 @@
 -- Rules 2, 3 and 4 as tests of one slot. LinkLaws says that they are the rules.
 -- Assumes nothing.
 use mathlib.Core.Path.{_≡_}
-use mathlib.Core.Bool.{Bool, true, false, _&&_, _||_, not}
+use mathlib.Core.Bool.{Bool, false, _&&_, _||_, not}
 use mathlib.Core.List.{List}
 use Prim.Native.Nat.{ℕ, zero, suc, _*_, _≤_, _<_}
 use lib.ListN.{length, getD, set}
@@ -82,13 +82,18 @@ rootAgrees root i m = pick (isNone (m .parent) && isNone (m .prev)) (eqb i root)
 unfoldable pub linksSane : List ℕ → ℕ → Node → Bool
 linksSane w n m = linkAt w n (m .parent) && (linkAt w n (m .next) && linkAt w n (m .prev))
 
+-- A slot agrees with its next and prev, and with its parent, its children and the root.
+unfoldable pub siblingsAgree : List ℕ → ℕ → Node → Bool
+siblingsAgree w i m = nextAgrees w i m && prevAgrees w i m
+
+unfoldable pub familyAgrees : List ℕ → List ℕ → ℕ → ℕ → Node → Bool
+familyAgrees w fs root i m = parentAgrees w m && (childAgrees fs i m && (firstAgrees fs i m && rootAgrees root i m))
+
 -- Rule 3 of slot i, but for the sentences that follow links to their end.
 unfoldable pub linksAt : List ℕ → List ℕ → ℕ → ℕ → ℕ → Bool
 linksAt w fs n root i =
     let m = nodeAt w (slot i) in
-    not (liveAt w n i) ||
-    (linksSane w n m &&
-    (nextAgrees w i m && (prevAgrees w i m && (parentAgrees w m && (childAgrees fs i m && (firstAgrees fs i m && rootAgrees root i m))))))
+    not (liveAt w n i) || (linksSane w n m && (siblingsAgree w i m && familyAgrees w fs root i m))
 
 -- Rule 4 of slot i: a Free slot's next isn't Free, and a Free slot with a parent has a sibling.
 unfoldable pub mergedAt : List ℕ → ℕ → ℕ → Bool

@@ -6,7 +6,7 @@ ghost use mathlib.Core.Path.{_≡_};
 ghost use Prim.Native.Nat.{_*_, _≤_, _<_};
 ghost use lib.ListN.{length};
 ghost use Rattle.slots.specs.Slots.{nodeAt, slot, HasSlot};
-ghost use Rattle.links.specs.Links.{liveAt, linkAt, spareWalk, isFirst, entered, firstsTo, nextAgrees, prevAgrees, parentAgrees, childAgrees, firstAgrees, rootAgrees, linksSane, linksAt, mergedAt, Table, NamesSlot, NamesPlace};
+ghost use Rattle.links.specs.Links.{liveAt, linkAt, spareWalk, isFirst, entered, firstsTo, nextAgrees, prevAgrees, parentAgrees, childAgrees, firstAgrees, rootAgrees, linksSane, siblingsAgree, familyAgrees, linksAt, mergedAt, Table, NamesSlot, NamesPlace};
 
 // Whether slot i is live: below n and not Unused.
 pub fn is_live(words: &[u32], n: u32, i: AllocIndex) -> bool
@@ -214,6 +214,34 @@ fn links_sane(words: &[u32], n: u32, node: Node) -> bool
     is_link(words, n, prev)
 }
 
+// A slot agrees with its next and its prev.
+fn siblings_agree(words: &[u32], i: AllocIndex, node: Node) -> bool
+    requires { ⌜ NamesSlot (now words) (node .next) × NamesSlot (now words) (node .prev) ⌝ }
+    ensures { λ r. ⌜ r ≡ siblingsAgree (now (words .entry)) (i .0) node ⌝ }
+{
+    if !next_agrees(words, i, node) {
+        return false;
+    }
+    prev_agrees(words, i, node)
+}
+
+// A slot agrees with its parent, with its children and with the root.
+fn family_agrees(words: &[u32], firsts: &[u32], root: AllocIndex, i: AllocIndex, node: Node) -> bool
+    requires { ⌜ NamesSlot (now words) (node .parent) × NamesPlace (now firsts) (node .parent) × (i .0 < length (now firsts)) ⌝ }
+    ensures { λ r. ⌜ r ≡ familyAgrees (now (words .entry)) (now (firsts .entry)) (root .0) (i .0) node ⌝ }
+{
+    if !parent_agrees(words, node) {
+        return false;
+    }
+    if !child_agrees(firsts, i, node) {
+        return false;
+    }
+    if !first_agrees(firsts, i, node) {
+        return false;
+    }
+    root_agrees(root, i, node)
+}
+
 // Rule 3 of slot i, but for the sentences that follow links to their end.
 pub fn links_at(words: &[u32], firsts: &[u32], n: u32, root: AllocIndex, i: AllocIndex) -> bool
     requires { ⌜ Table (now words) n × (n ≤ length (now firsts)) × (i .0 < n) ⌝ }
@@ -226,22 +254,10 @@ pub fn links_at(words: &[u32], firsts: &[u32], n: u32, root: AllocIndex, i: Allo
     if !links_sane(words, n, node) {
         return false;
     }
-    if !next_agrees(words, i, node) {
+    if !siblings_agree(words, i, node) {
         return false;
     }
-    if !prev_agrees(words, i, node) {
-        return false;
-    }
-    if !parent_agrees(words, node) {
-        return false;
-    }
-    if !child_agrees(firsts, i, node) {
-        return false;
-    }
-    if !first_agrees(firsts, i, node) {
-        return false;
-    }
-    root_agrees(root, i, node)
+    family_agrees(words, firsts, root, i, node)
 }
 
 // Rule 4 of slot i: a Free slot's next isn't Free, and with a parent it has a sibling.
