@@ -10,10 +10,11 @@ use native.Mathlib.Decide.{decLt}
 use lib.ListN.{length}
 use Rattle.slots.specs.declared.NodeKind.{NodeKind}
 use Rattle.slots.specs.declared.NodeKind.the-variants.{Container, Alloc, Free, Unused}
+use Rattle.lists.specs.Counts.{count}
 use Rattle.sound.specs.View.{Link, none, to, Seen, inUse, Dead}
 use Rattle.sound.specs.Rules.{Ends, Visits, it, later}
 use Rattle.sound.specs.Sound.{SpareChain}
-use Rattle.forest.specs.Pigeon.{In, Distinct, count, pigeon, pigeon-all, cover-length}
+use Rattle.forest.specs.Pigeon.{In, Distinct, pigeon, pigeon-all, cover-length}
 use Rattle.forest.specs.Ends.{EndsIn, ends-in, in-ends, ends-bounded, path, path-length, path-distinct, path-stays}
 
 -- What a path has, and what following it visits, are the same slots.
