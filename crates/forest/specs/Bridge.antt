@@ -11,11 +11,12 @@ use Rattle.geometry.specs.declared.Orientation.{Orientation}
 use Rattle.geometry.specs.declared.Rectangle.{Rectangle}
 use Rattle.slots.specs.declared.NodeKind.{NodeKind}
 use Rattle.slots.specs.declared.NodeKind.the-variants.{Container, Alloc, Free, Unused}
+use Rattle.lists.specs.Counts.{count}
 use Rattle.sound.specs.View.{Link, none, to, Seen, Live, inUse}
 use Rattle.sound.specs.Rules.{Ends, FirstChild}
 use Rattle.sound.specs.Sound.{Linked}
 use Rattle.forest.specs.Flips.{flip-flip}
-use Rattle.forest.specs.Pigeon.{In, count}
+use Rattle.forest.specs.Pigeon.{In}
 use Rattle.forest.specs.Ends.{EndsIn, ends-in, ends-bounded}
 use Rattle.forest.specs.Forest.{Forest, empty, slot, head, slots, Bare, Full, Shape, Here, Rep, Represents, in-slot, in-children, in-after}
 

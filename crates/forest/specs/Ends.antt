@@ -7,9 +7,10 @@ use mathlib.Core.Logic.{_⊎_, inl, inr, ⊎-elim}
 use mathlib.Core.List.{List, [], _∷_, _++_}
 use native.Mathlib.Omega.{arith}
 use lib.ListN.{length}
+use Rattle.lists.specs.Counts.{count}
 use Rattle.sound.specs.View.{Link, none, to}
 use Rattle.sound.specs.Rules.{Ends, arrived, onward}
-use Rattle.forest.specs.Pigeon.{In, Distinct, count, pigeon}
+use Rattle.forest.specs.Pigeon.{In, Distinct, pigeon}
 
 -- The same with the number of slots passed: for the proofs.
 abbrev pub EndsIn : (ℕ → Link) → Link → ℕ → Type 0

@@ -5,6 +5,8 @@ pub mod Forest
 pub mod Bridge
 pub mod Back
 pub mod Place
+pub mod Tree
+pub mod Fill
 pub mod Follows
 pub mod Spare
 pub mod Audit

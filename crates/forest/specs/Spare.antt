@@ -6,10 +6,11 @@ use mathlib.Core.Bool.{Bool, true, not}
 use mathlib.Core.Logic.{_⊎_, inl, inr, ⊎-elim}
 use native.Mathlib.Omega.{arith}
 use borrow.Author.Tests.{not-true}
+use Rattle.lists.specs.Counts.{count}
 use Rattle.sound.specs.View.{Link, none, to, Seen, inUse, Dead}
 use Rattle.sound.specs.Rules.{Ends, onward, Visits, it, later}
 use Rattle.sound.specs.Sound.{SpareChain}
-use Rattle.forest.specs.Pigeon.{In, count, pigeon, pigeon-all, cover-length}
+use Rattle.forest.specs.Pigeon.{In, pigeon, pigeon-all, cover-length}
 use Rattle.forest.specs.Ends.{EndsIn, ends-in, in-ends, path, path-length, path-distinct}
 
 -- What a path has, and what following it visits, are the same slots.
