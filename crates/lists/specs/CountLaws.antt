@@ -2,9 +2,11 @@
 -- Assumes nothing.
 use mathlib.Core.Path.{_≡_, refl}
 use mathlib.Core.Bool.{Bool, true, false}
+use mathlib.Core.Logic.{⊎-elim}
 use Prim.Native.Nat.{ℕ, zero, suc, _+_, _-_, _≤_, _<_}
 use native.Mathlib.Omega.{arith}
 use native.Mathlib.Decide.{ℕ-discrete}
+use Rattle.geometry.specs.TestLaws.{same-or-not}
 use Rattle.lists.specs.Counts.{bit, count}
 
 bit-more : (a b : Bool) → (a ≡ true → b ≡ true) → bit a ≤ bit b
@@ -62,3 +64,20 @@ module _ (p q : ℕ → Bool) where
       go : Dec (n ≡ k) → (k < n → count p n < count q n) → bit (p n) + count p n < bit (q n) + count q n
       go (yes e) r = rw (e, a, b) (omega (arith, count-more k f))
       go (no e) r = omega (arith, bit-more (p n) (q n) (f n), r (omega arith))
+
+-- A number that passes is counted.
+pub count-some : (p : ℕ → Bool) (n k : ℕ) → k < n → p k ≡ true → 0 < count p n
+unfolding count
+count-some p zero k h t = absurd (omega arith)
+count-some p (suc n) k h t =
+    ⊎-elim (λ e. rw (← e, t) (omega arith)) (λ d. omega (arith, count-some p n k (omega arith) t)) (same-or-not k n)
+
+-- Where some are counted there is one that passes.
+pub count-found : {A : Type 0} (p : ℕ → Bool) (n : ℕ) → 0 < count p n → ((k : ℕ) → k < n → p k ≡ true → A) → A
+unfolding count
+count-found p zero h f = absurd (omega arith)
+count-found {A} p (suc n) h f = go (p n) refl (λ g. count-found p n g (λ k b. f k (omega arith)))
+  where
+    go : (b : Bool) → p n ≡ b → (0 < count p n → A) → A
+    go true e r = f n (omega arith) e
+    go false e r = r (let g = rw e at h in omega arith)

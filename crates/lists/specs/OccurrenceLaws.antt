@@ -10,11 +10,11 @@ use native.Mathlib.Numerals.{add-one}
 use lib.Dec.{eqb}
 use lib.ListN.{length, getD, drop, length-append, List·getD-append}
 use lib.Seq.{getD-set-same, getD-set-other, getD-append-seam}
-use borrow.Author.Tests.{eq-eqb, ne-eqb}
+use borrow.Author.Tests.{eqb-true, eq-eqb, ne-eqb}
 use Rattle.geometry.specs.Choice.{pick}
 use Rattle.lists.specs.Lists.{Bag, bag, appended, removed, occurs, freeEntry, keeps, keepers, swept, pushed, Pushable}
 use Rattle.lists.specs.Counts.{bit, count, holds, occurrences}
-use Rattle.lists.specs.CountLaws.{count-last, count-same, count-change}
+use Rattle.lists.specs.CountLaws.{count-last, count-same, count-change, count-some, count-found}
 use Rattle.lists.specs.PushLaws.{ready, pushed-ready, ready-elim, room-ready}
 
 -- Append: one more of the appended entry, and of the others as many as before.
@@ -54,6 +54,13 @@ occurring x t (suc n) h = go (eqb (getD t n 0) x) refl (occurring x t n)
     go : (e : Bool) → eqb (getD t n 0) x ≡ e → (0 < occurrences x (bag t n) → occurs t x n ≡ true) → e || occurs t x n ≡ true
     go true e r = refl
     go false e r = r (omega (arith, rw e at h))
+
+-- What stands at a filled place occurs, and what occurs stands at a filled place.
+pub place-occurs : (x : ℕ) (b : Bag) (k : ℕ) → k < b .len → getD (b .table) k 0 ≡ x → 0 < occurrences x b
+place-occurs x b k h e = count-some (holds b x) (b .len) k h (eq-eqb (getD (b .table) k 0) x e)
+
+pub occurs-at : {A : Type 0} (x : ℕ) (b : Bag) → 0 < occurrences x b → ((k : ℕ) → k < b .len → getD (b .table) k 0 ≡ x → A) → A
+occurs-at x b h f = count-found (holds b x) (b .len) h (λ k l e. f k l (eqb-true (getD (b .table) k 0) x e))
 
 -- How often x occurs in the whole of a list.
 tally : ℕ → List ℕ → ℕ

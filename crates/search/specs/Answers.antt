@@ -22,11 +22,14 @@ use Rattle.search.specs.declared.Query.{Query}
 use Rattle.search.specs.Scans.{Scanned}
 use Rattle.search.specs.Search.{chosenOf, scanBucket, Searched, searchOne, isLarge, higher, settled, searchUp, Searchable}
 use Rattle.search.specs.Suits.{Suits}
-use Rattle.search.specs.Occurrences.{same-or-not, occurrences, occurs-at}
+use Rattle.geometry.specs.TestLaws.{same-or-not}
+use Rattle.lists.specs.Counts.{occurrences}
+use Rattle.lists.specs.OccurrenceLaws.{occurs-at}
+use Rattle.lists.specs.FreeListLaws.{listOf-withList-same}
 use Rattle.search.specs.Thinned.{Thinned, thinned-twice}
 use Rattle.search.specs.ScanLaws.{listIn, looking-ends}
 use Rattle.search.specs.Candidates.{Scanning, SoFar, scan-scans}
-use Rattle.search.specs.SearchLaws.{list-there, one-thins, one-searchable}
+use Rattle.search.specs.SearchLaws.{one-thins, one-searchable}
 
 -- What is known of the slot that a search of some buckets chose: its entry's place, and that it suits.
 pub record Chose (w : List ℕ) (q : Query) (Among : Bucket → Type 0) (l : Lists) (i : AllocIndex) (b : Bucket) (k : ℕ) : Type 0 where
@@ -78,14 +81,14 @@ one-answers w q b l r = answer _ (scan-scans w q (listOf b l .table) (listOf b l
         cases (best.At k) f =
             record {
               among = refl;
-              place = rw (list-there b (listIn o) l) (omega (arith, f .0, s .placed));
-              entry = rw (list-there b (listIn o) l);
+              place = rw (listOf-withList-same b (listIn o) l) (omega (arith, f .0, s .placed));
+              entry = rw (listOf-withList-same b (listIn o) l);
               suits = f .1;
             }
         cases best.Nothing f =
             λ c e x n z.
-            let m : 0 < occurrences x (listIn o) = (rw (e, list-there b (listIn o) l) at n) in
-            occurs-at x (o .table) (o .scan .len) m (λ k g y. f k (omega arith) (rw (← y) at z))
+            let m : 0 < occurrences x (listIn o) = (rw (e, listOf-withList-same b (listIn o) l) at n) in
+            occurs-at x (listIn o) m (λ k g y. f k (omega arith) (rw (← y) at z))
 
 -- The bucket decides: with a choice, or as the last.
 answered-here : (w : List ℕ) (q : Query) (b : Bucket) (l : Lists) (a : Chosen) → (a ≡ Nothing → 2 ≤ rank b)

@@ -13,7 +13,7 @@ use Rattle.search.specs.declared.Query.{Query}
 use Rattle.search.specs.Scans.{Scanned, scanned, look, first, scanAll}
 use Rattle.search.specs.Search.{BestWithin}
 use Rattle.search.specs.Suits.{Suits}
-use Rattle.search.specs.Occurrences.{same-or-not}
+use Rattle.geometry.specs.TestLaws.{same-or-not}
 use Rattle.search.specs.ScanLaws.{look-cases, looking-keeps}
 
 -- What is known of the places before `at`: the candidate's is one of them and suits; with no candidate, none suits.

@@ -22,7 +22,7 @@ use Rattle.search.specs.declared.Chosen.the-variants.{At, Nothing}
 use Rattle.search.specs.Scans.{Lookable}
 use Rattle.search.specs.Search.{Searched, queryOf, findSuitable, Searchable}
 use Rattle.search.specs.Suits.{Suits}
-use Rattle.search.specs.Occurrences.{occurrences}
+use Rattle.lists.specs.Counts.{occurrences}
 use Rattle.search.specs.Thinned.{Thinned, each-thinned}
 use Rattle.search.specs.SearchLaws.{searchable-thinned}
 use Rattle.search.specs.Answers.{Chose, Answered, up-thins, up-answers}

@@ -1,7 +1,6 @@
 pub mod Scans
 pub mod Search
 pub mod Suits
-pub mod Occurrences
 pub mod Thinned
 pub mod ScanLaws
 pub mod Candidates

@@ -11,6 +11,7 @@ use Rattle.geometry.specs.declared.Extent.{Extent}
 use Rattle.geometry.specs.declared.Setup.{Setup}
 use Rattle.lists.specs.Lists.{Bag}
 use Rattle.lists.specs.FreeLists.{Lists, listOf, withList}
+use Rattle.lists.specs.FreeListLaws.{withList-elim}
 use Rattle.search.specs.declared.Chosen.{Chosen}
 use Rattle.search.specs.declared.Query.{Query}
 use Rattle.search.specs.Scans.{Scanned, scanned, first, scanAll, Ready}
@@ -30,25 +31,6 @@ pub bucket-scanned : (w : List ℕ) (q : Query) (b : Bucket) (l : Bag) (o : Scan
 unfolding scanBucket
 bucket-scanned w q b l o c e f = rw (f, e)
 
--- What holds of a list that takes a bucket's place, and of the others, holds of each after it.
-pub each-list : (P : Bucket → Bag → Type 0) (b : Bucket) (a : Bag) (l : Lists) → P b a → ((c : Bucket) → P c (listOf c l))
-    → (c : Bucket) → P c (listOf c (withList b a l))
-each-list P Small a l p r Small = p
-each-list P Small a l p r Medium = r Medium
-each-list P Small a l p r Large = r Large
-each-list P Medium a l p r Small = r Small
-each-list P Medium a l p r Medium = p
-each-list P Medium a l p r Large = r Large
-each-list P Large a l p r Small = r Small
-each-list P Large a l p r Medium = r Medium
-each-list P Large a l p r Large = p
-
--- A bucket's list is the one that took its place.
-pub list-there : (b : Bucket) (a : Bag) (l : Lists) → listOf b (withList b a l) ≡ a
-list-there Small a l = refl
-list-there Medium a l = refl
-list-there Large a l = refl
-
 -- The search of one bucket, by the scan of its list.
 pub one-searched : (w : List ℕ) (q : Query) (b c : Bucket) (l : Lists) (a : ScanAnswer) → b ≡ c → a ≡ scanBucket w q b (listOf c l)
     → searched (a .chosen) (withList c (a .list) l) ≡ searchOne w q b l
@@ -60,7 +42,7 @@ pub one-thins : (w : List ℕ) (q : Query) (b : Bucket) (l : Lists) → Searchab
     → Thinned w (listOf c l) (listOf c (searchOne w q b l .lists))
 unfolding searchOne scanBucket
 one-thins w q b l r =
-    each-list (λ c a. Thinned w (listOf c l) a) b (scanBucket w q b (listOf b l) .list) l
+    withList-elim (λ c a. Thinned w (listOf c l) a) b (scanBucket w q b (listOf b l) .list) l
     (looking-thins w q (listOf b l .len) (scanned (first (listOf b l .len)) (listOf b l .table)) (r b .within)) (λ c. thinned-itself)
 
 -- Thinned lists are as ready to be searched as they were.

@@ -6,9 +6,11 @@ use mathlib.Core.List.{List}
 use Prim.Native.Nat.{ℕ, _≤_, _<_}
 use native.Mathlib.Omega.{arith}
 use lib.ListN.{length, getD, length-set}
+use lib.Dec.{eqb}
 use borrow.Author.Tests.{ne-eqb}
 use Rattle.lists.specs.Lists.{Bag, removed, freeEntry, Each}
-use Rattle.search.specs.Occurrences.{counted, occurrences, occurrences-removed, place-occurs, occurs-at}
+use Rattle.lists.specs.Counts.{bit, occurrences}
+use Rattle.lists.specs.OccurrenceLaws.{occurrences-removed, place-occurs, occurs-at}
 
 -- List b is list a with entries of slots that aren't Free taken out.
 pub record Thinned (w : List ℕ) (a b : Bag) : Type 0 where
@@ -35,10 +37,10 @@ thinned-twice s t =
 pub each-thinned : {w : List ℕ} {a b : Bag} (P : ℕ → Type 0) → Thinned w a b → Each P a → Each P b
 each-thinned {w} {a} {b} P t e k h =
     let x = getD (b .table) k 0 in
-    occurs-at x (a .table) (a .len) (omega (arith, t .drops x, place-occurs x (b .table) (b .len) k h refl)) (λ j i s. subst P s (e j i))
+    occurs-at x a (omega (arith, t .drops x, place-occurs x b k h refl)) (λ j i s. subst P s (e j i))
 
 -- An entry of a Free slot is not counted where one of another slot stands.
-other-entry : (w : List ℕ) (x y : ℕ) → freeEntry w x ≡ true → freeEntry w y ≡ false → counted x y ≡ 0
+other-entry : (w : List ℕ) (x y : ℕ) → freeEntry w x ≡ true → freeEntry w y ≡ false → bit (eqb y x) ≡ 0
 other-entry w x y f d = rw (ne-eqb y x (λ e. let z : _≡_ {A = ℕ} 0 1 = cc in omega arith))
 
 -- The swap-remove of an entry whose slot isn't Free thins the list.
