@@ -16,7 +16,7 @@ use Rattle.steps.specs.Spares.{unusedAt, unusedBelow}
 use Rattle.sound.specs.View.{Link, to, linkOf, seen, inUse, Dead}
 use Rattle.sound.specs.Rules.{Visits, it, later}
 use Rattle.sound.specs.Sound.{SpareChain}
-use Rattle.forest.specs.Pigeon.{bit, count}
+use Rattle.lists.specs.Counts.{bit, count}
 use Rattle.forest.specs.Ends.{EndsIn}
 use Rattle.forest.specs.Spare.{isDead, none-visits, visits-step, spare-steps, steps-spare}
 use Rattle.links.specs.Links.{Table, spareWalk}
