@@ -3,7 +3,7 @@
 use mathlib.Core.Path.{_≡_}
 use mathlib.Core.Bool.{Bool, true, false, _&&_, not}
 use mathlib.Core.List.{List}
-use Prim.Native.Nat.{ℕ, suc, _+_, _-_, _*_, _≤_, _<_}
+use Prim.Native.Nat.{ℕ, suc, _+_, _-_, _*_, _≤_}
 use lib.ListN.{length, getD}
 use lib.Dec.{eqb}
 use Rattle.geometry.specs.Cuts.{emptyRect, noRect}
@@ -11,9 +11,9 @@ use Rattle.geometry.specs.declared.Orientation.{Orientation}
 use Rattle.geometry.specs.declared.Orientation.the-variants.{Vertical, Horizontal}
 use Rattle.geometry.specs.declared.Rectangle.{Rectangle}
 use Rattle.slots.specs.declared.NodeKind.the-variants.{Container}
-use Rattle.sound.specs.View.{Link, none, to, Seen, seen, Live}
-use Rattle.sound.specs.Rules.{Adjoin, join}
-use Rattle.forest.specs.Forest.{Forest, empty, slot, head}
+use Rattle.sound.specs.View.{Link, to, seen, Live}
+use Rattle.sound.specs.Rules.{join}
+use Rattle.forest.specs.Forest.{Forest, head}
 use Rattle.forest.specs.Follows.{Follows, size, down}
 use Rattle.forest.specs.Place.{SlotAt, PlaceF}
 use Rattle.places.specs.declared.Placed.{Placed}

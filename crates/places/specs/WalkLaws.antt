@@ -1,20 +1,19 @@
 -- One step of the walk: what each function's answer follows from, that the count falls, and that the next call may be made.
 -- Assumes nothing.
 use mathlib.Core.Path.{_≡_, refl, sym, _∙_, ap}
-use mathlib.Core.Bool.{Bool, true, false, not, false≢true}
+use mathlib.Core.Bool.{true, false, not, false≢true}
 use mathlib.Core.List.{List}
-use Prim.Native.Nat.{ℕ, suc, _+_, _-_, _*_, _≤_, _<_}
+use Prim.Native.Nat.{ℕ, _+_, _-_, _≤_, _<_}
 use native.Mathlib.Omega.{arith}
 use lib.ListN.{length, getD}
 use Rattle.geometry.specs.Cuts.{emptyRect}
 use Rattle.geometry.specs.declared.Rectangle.{Rectangle}
 use Rattle.slots.specs.Slots as slots
 use Rattle.slots.specs.Slots.{isNone, sameKind, nodeAt, HasSlot}
-use Rattle.slots.specs.declared.AllocIndex.{AllocIndex}
 use Rattle.slots.specs.declared.Node.{Node}
 use Rattle.slots.specs.declared.NodeKind.{NodeKind}
 use Rattle.slots.specs.declared.NodeKind.the-variants.{Container, Alloc, Free, Unused}
-use Rattle.sound.specs.View.{Link, none, to, linkOf, Seen, seen, inUse, Live}
+use Rattle.sound.specs.View.{Link, none, to, linkOf, seen, inUse, Live}
 use Rattle.forest.specs.Forest.{Forest, empty, slot, head}
 use Rattle.forest.specs.Follows.{Follows, size, down}
 use Rattle.forest.specs.Place.{SlotAt, PlaceF}

@@ -147,6 +147,7 @@ fn place_of_container(words: &[u32], firsts: &[u32], i: AllocIndex, left: u32) -
 }
 
 // The place of the chain that starts at slot i. firsts has the first child of each Container below its length.
+// Each call that stands has taken one slot of the count, so at most one call more than the count stands at a time.
 pub fn place_of_chain(words: &[u32], firsts: &[u32], i: AllocIndex, left: u32) -> Placed
     requires { ⌜ Ready (now words) (now firsts) (i .0) ⌝ }
     ensures { λ p. ⌜ Chained (now (words .entry)) (now (firsts .entry)) (i .0) left p ⌝ }
