@@ -15,7 +15,8 @@ use Rattle.slots.specs.declared.NodeKind.the-variants.{Container}
 use Rattle.sound.specs.View.{Link, none, to, Seen, seen, inUse, Live}
 use Rattle.sound.specs.Rules.{FirstChild, PlaceSlot, PlaceChain, last, more}
 use Rattle.sound.specs.Sound.{Linked}
-use Rattle.forest.specs.Pigeon.{In, count}
+use Rattle.lists.specs.Counts.{count}
+use Rattle.forest.specs.Pigeon.{In}
 use Rattle.forest.specs.Forest.{Forest, empty, slot, head, slots, Rep, Represents, in-slot}
 use Rattle.forest.specs.Follows.{Follows, Local, size, live, kidsOf, nextOf, linked-follows, follows-represents, follows-linked}
 use Rattle.forest.specs.Place.{place-table, table-place}
