@@ -1,7 +1,6 @@
 -- THE COVER: the rectangles of the Alloc and the Free slots of sound tables cover the sheet exactly once.
 -- Assumes nothing but that the tables are sound.
 use mathlib.Core.Path.{_≡_, refl, sym, _∙_}
-use mathlib.Core.Bool.{true}
 use Prim.Native.Nat.{ℕ, _+_, _*_, _-_, _≤_, _<_}
 use native.Mathlib.Omega.{arith}
 use native.Mathlib.Numerals.{unary-clauses}
@@ -11,20 +10,20 @@ use Rattle.geometry.specs.Measures.{covers, areaOf, Adds}
 use Rattle.geometry.specs.MeasureLaws.{covers-adds, area-adds, covers-one}
 use Rattle.geometry.specs.declared.Rectangle.{Rectangle}
 use Rattle.steps.specs.State.{State}
-use Rattle.sound.specs.View.{none, Seen, seen, Live}
-use Rattle.sound.specs.Rules.{Leaf, NotEmpty}
+use Rattle.sound.specs.View.{none, Seen, seen}
+use Rattle.sound.specs.Rules.{NotEmpty}
 use Rattle.sound.specs.Sound.{Sound, sheetOf}
-use Rattle.forest.specs.Pigeon.{In}
 use Rattle.forest.specs.Forest.{Forest, slots, Represents, rep-distinct}
 use Rattle.forest.specs.Bridge.{forest}
 use Rattle.forest.specs.Back.{in-live}
 use Rattle.forest.specs.Place.{PlaceF, table-place}
 use Rattle.forest.specs.Fill.{place-measured, leaf-not-empty}
-use Rattle.cover.specs.Sums.{sumBelow, allocMeasure, freeMeasure, leafMeasure, sumSlots, LeafAt, rectAt, InRect}
+use Rattle.cover.specs.Sums.{allocMeasure, freeMeasure, leafMeasure, sumSlots, LeafAt, rectAt, InRect}
 use Rattle.cover.specs.SumLaws.{sum-both, sum-some, one-part, two-parts, sum-list}
 use Rattle.cover.specs.Leaves.{leaf-either, leaf-in-use, leaf-live, leaf-adds, adds-leaf, slots-total, covers-most, covers-in}
 
 module _ {s : State} (sound : Sound s) where
+  -- The slots, their count, the sheet and the root, as the rules have them.
   abbrev get : ℕ → Seen
   get = seen (s .words)
 

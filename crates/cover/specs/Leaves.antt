@@ -1,10 +1,9 @@
--- The sum over a forest's slots is the sum over its tree's leaves, and what it says that a slot's part is not 0.
+-- What one slot adds to the sum, and that the sum over a forest's slots is the sum over its tree's leaves.
 -- Assumes nothing.
-use mathlib.Core.Path.{_≡_, refl, sym, _∙_, ap}
+use mathlib.Core.Path.{_≡_, refl}
 use mathlib.Core.Bool.{Bool, true, false, _&&_}
-use mathlib.Core.Logic.{_⊎_, inl, inr, ⊎-elim}
-use mathlib.Core.List.{List, [], _∷_, _++_}
-use Prim.Native.Nat.{ℕ, zero, suc, _+_, _≤_, _<_}
+use mathlib.Core.Logic.{inl, inr}
+use Prim.Native.Nat.{ℕ, _+_, _≤_, _<_}
 use native.Mathlib.Omega.{arith}
 use Rattle.geometry.specs.Choice.{pick}
 use Rattle.geometry.specs.Cuts.{flip}
@@ -22,27 +21,27 @@ use Rattle.forest.specs.Tree.{Tree, before, treeOf, total}
 use Rattle.cover.specs.Sums.{isLeaf, allocMeasure, freeMeasure, leafMeasure, InRect}
 use Rattle.cover.specs.SumLaws.{sumOver, over-append}
 
--- An Alloc or Free slot is either.
+-- An Alloc or Free slot is one of the two.
 pub leaf-either : (μ : Rectangle → ℕ) (m : Seen) → leafMeasure μ m ≡ allocMeasure μ m + freeMeasure μ m
 unfolding leafMeasure allocMeasure freeMeasure
-leaf-either μ m = go (m .kind) (μ (m .rect))
+leaf-either μ m = go (m .kind) refl
   where
-    go : (k : NodeKind) (v : ℕ) → pick (isLeaf k) v 0 ≡ pick (sameKind k Alloc) v 0 + pick (sameKind k Free) v 0
-    go Container v = refl
-    go Alloc v = omega arith
-    go Free v = omega arith
-    go Unused v = refl
+    go : (k : NodeKind) → m .kind ≡ k → leafMeasure μ m ≡ allocMeasure μ m + freeMeasure μ m
+    go Container e = rw e (omega arith)
+    go Alloc e = rw e (omega arith)
+    go Free e = rw e (omega arith)
+    go Unused e = rw e (omega arith)
 
--- An Unused slot adds nothing.
+-- A slot that is not live adds nothing.
 pub leaf-in-use : (μ : Rectangle → ℕ) (m : Seen) → (inUse (m .kind) ≡ true → ⊥) → leafMeasure μ m ≡ 0
 unfolding leafMeasure
-leaf-in-use μ m = go (m .kind)
+leaf-in-use μ m h = go (m .kind) refl
   where
-    go : (k : NodeKind) → (inUse k ≡ true → ⊥) → pick (isLeaf k) (μ (m .rect)) 0 ≡ 0
-    go Container h = refl
-    go Alloc h = absurd (h refl)
-    go Free h = absurd (h refl)
-    go Unused h = refl
+    go : (k : NodeKind) → m .kind ≡ k → leafMeasure μ m ≡ 0
+    go Container e = rw e refl
+    go Alloc e = absurd (h (rw e refl))
+    go Free e = absurd (h (rw e refl))
+    go Unused e = rw e refl
 
 -- An Alloc or Free slot is live.
 pub leaf-live : {k : NodeKind} → Leaf k → inUse k ≡ true
@@ -58,18 +57,20 @@ leaf-adds μ m (inr e) = rw e refl
 -- A slot that adds something is one of these.
 pub adds-leaf : (μ : Rectangle → ℕ) (m : Seen) → 0 < leafMeasure μ m → Leaf (m .kind)
 unfolding leafMeasure
-adds-leaf μ m = go (m .kind)
+adds-leaf μ m h = go (m .kind) refl
   where
-    go : (k : NodeKind) → 0 < pick (isLeaf k) (μ (m .rect)) 0 → Leaf k
-    go Container h = absurd (omega arith)
-    go Alloc h = inl refl
-    go Free h = inr refl
-    go Unused h = absurd (omega arith)
+    go : (k : NodeKind) → m .kind ≡ k → Leaf (m .kind)
+    go Container e = absurd (let z = rw e at h in omega arith)
+    go Alloc e = inl e
+    go Free e = inr e
+    go Unused e = absurd (let z = rw e at h in omega arith)
 
 module _ (get : ℕ → Seen) (n : ℕ) (μ : Rectangle → ℕ) where
+  -- What slot i adds.
   abbrev part : ℕ → ℕ
   part i = leafMeasure μ (get i)
 
+  -- One slot, over its children and before a chain.
   slot-total : (k : NodeKind) (i : ℕ) (r : Rectangle) (C : Forest) (c t : Tree) → Shape k C → sumOver part (slots C) ≡ total μ c
       → pick (isLeaf k) (μ r) 0 + (sumOver part (slots C) + total μ t) ≡ total μ (before k i r c t)
   unfolding total sumOver

@@ -3,7 +3,7 @@
 -- Assumes nothing.
 use Prim.Native.Nat.{ℕ, _<_}
 use mathlib.Core.Path.{_≡_, refl, sym, _∙_, ap}
-use mathlib.Core.Logic.{_⊎_, inl, inr, ⊎-elim}
+use mathlib.Core.Logic.{inl, inr}
 use native.Mathlib.Omega.{arith}
 use Rattle.geometry.specs.Cuts.{flip}
 use Rattle.geometry.specs.Measures.{span, start, end, Adds}
@@ -21,18 +21,31 @@ use Rattle.forest.specs.Back.{by-place}
 use Rattle.forest.specs.Place.{SlotAt, Then, PlaceF}
 use Rattle.forest.specs.Tree.{Tree, before, treeOf, Fits, total, fits-measured}
 
--- No place is empty.
+-- The join of two that are not empty is not.
 join-not-empty : (o : Orientation) (q s : Rectangle) → Adjoin o q s → NotEmpty q → NotEmpty s → NotEmpty (join q s)
 join-not-empty Vertical q s h x y = (omega arith, omega arith)
 join-not-empty Horizontal q s h x y = (omega arith, omega arith)
 
-module _ (get : ℕ → Seen) where
-  slot-not-empty : (k : NodeKind) (mine q : Rectangle) (P : Rectangle → Type 0) → (P q → NotEmpty q) → SlotAt k mine P q → NotEmpty q
-  slot-not-empty Container mine q P f h = f h
-  slot-not-empty Alloc mine q P f h = rw (h .1) (h .0)
-  slot-not-empty Free mine q P f h = rw (h .1) (h .0)
-  slot-not-empty Unused mine q P f h = absurd h
+-- A slot's place is not, where its children's is not.
+slot-not-empty : (k : NodeKind) (mine q : Rectangle) (P : Rectangle → Type 0) → (P q → NotEmpty q) → SlotAt k mine P q → NotEmpty q
+slot-not-empty Container mine q P f h = f h
+slot-not-empty Alloc mine q P f h = rw (h .1) (h .0)
+slot-not-empty Free mine q P f h = rw (h .1) (h .0)
+slot-not-empty Unused mine q P f h = absurd h
 
+-- A leaf's own rectangle is not.
+no-leaf : Leaf Container → ⊥
+no-leaf (inl e) = let z : _≡_ {A = ℕ} 0 1 = cc in omega arith
+no-leaf (inr e) = let z : _≡_ {A = ℕ} 0 1 = cc in omega arith
+
+slot-leaf : (k : NodeKind) (mine q : Rectangle) (P : Rectangle → Type 0) → Leaf k → SlotAt k mine P q → NotEmpty mine
+slot-leaf Container mine q P l h = absurd (no-leaf l)
+slot-leaf Alloc mine q P l h = h .0
+slot-leaf Free mine q P l h = h .0
+slot-leaf Unused mine q P l h = absurd h
+
+module _ (get : ℕ → Seen) where
+  -- No place is empty.
   pub place-not-empty : (F : Forest) (r : Rectangle) → PlaceF get F r → NotEmpty r
   place-not-empty empty r h = absurd h
   place-not-empty (slot i C S) r h =
@@ -69,6 +82,7 @@ join-parts Horizontal q s a b c d h e =
     let k = corners-same e in
     (q .x1, same-corners q _ (omega arith, omega arith, refl, omega arith), same-corners s _ (omega arith, omega arith, omega arith, omega arith))
 
+-- Along an orientation, one that is not empty ends after it starts.
 span-runs : (o : Orientation) (a b c d : ℕ) → NotEmpty (span o a b c d) → a < b
 span-runs Vertical a b c d h = h .1
 span-runs Horizontal a b c d h = h .0
@@ -89,12 +103,11 @@ module _ (get : ℕ → Seen) (n : ℕ) where
   place-fits p v o empty r a b c d h = absurd h
   place-fits p v o (slot i C S) r a b c d h =
       let x = after S (rw (r .0 .orientation) at (h .2)) (place-fits p (to i) o S (r .2)) in
-      let me : SlotAt (get i .kind) (get i .rect) (PlaceF get C) (span o a (x .0) c d) = rw (← x .1) (h .1) in
+      let q = span o a (x .0) c d in
+      let me : SlotAt (get i .kind) (get i .rect) (PlaceF get C) q = rw (← x .1) (h .1) in
+      let some = slot-not-empty (get i .kind) (get i .rect) q (PlaceF get C) (place-not-empty get C q) me in
       slot-fits (get i .kind) i (get i .rect) C (treeOf get S) o a (x .0) b c d
-      (place-fits (to i) none (flip o) C (r .1) c d a (x .0)) me
-      (span-runs o a (x .0) c d
-      (slot-not-empty get (get i .kind) (get i .rect) (span o a (x .0) c d) (PlaceF get C) (place-not-empty get C (span o a (x .0) c d)) me))
-      (x .2)
+      (place-fits (to i) none (flip o) C (r .1) c d a (x .0)) me (span-runs o a (x .0) c d some) (x .2)
     where
       after : (T : Forest) → Then T o (h .0) (PlaceF get T) (span o a b c d)
           → ((a b c d : ℕ) → PlaceF get T (span o a b c d) → Fits o a b c d (treeOf get T))
@@ -111,13 +124,6 @@ module _ (get : ℕ → Seen) (n : ℕ) where
       let e = as-span o r in
       fits-measured μ adds (treeOf get F) o _ _ _ _ (place-fits p v o F R _ _ _ _ (rw e at h)) ∙ ap μ (sym e)
 
-  -- A leaf's place is its rectangle, which is not empty.
-  slot-leaf : (k : NodeKind) (mine q : Rectangle) (P : Rectangle → Type 0) → Leaf k → SlotAt k mine P q → NotEmpty mine
-  slot-leaf Container mine q P l h = absurd (⊎-elim (λ e. let z : _≡_ {A = ℕ} 0 1 = cc in omega arith) (λ e. let z : _≡_ {A = ℕ} 0 1 = cc in omega arith) l)
-  slot-leaf Alloc mine q P l h = h .0
-  slot-leaf Free mine q P l h = h .0
-  slot-leaf Unused mine q P l h = absurd h
-
   -- What hangs below a slot has a place.
   below-placed : (k : NodeKind) (C : Forest) (mine q : Rectangle) (i : ℕ) → Shape k C → In i (slots C) → SlotAt k mine (PlaceF get C) q → PlaceF get C q
   below-placed Container C mine q i sh m h = h
@@ -133,13 +139,14 @@ module _ (get : ℕ → Seen) (n : ℕ) where
   after-placed empty o q r i m h = absurd m
   after-placed (slot j B U) o q r i m h = (h .0, h .1)
 
+  -- No leaf is empty.
   pub leaf-not-empty : (p v : Link) (o : Orientation) (F : Forest) → Rep get n p v o F → (r : Rectangle) → PlaceF get F r
       → (i : ℕ) → In i (slots F) → Leaf (get i .kind) → NotEmpty (get i .rect)
   leaf-not-empty p v o empty R r h i m l = absurd m
   leaf-not-empty p v o (slot j C S) R r h i m l =
-      by-place {G = NotEmpty (get i .rect)} i j C S
-      (λ e. slot-leaf (get i .kind) (get i .rect) (h .0) (PlaceF get C) l (rw e (h .1)))
-      (λ c. leaf-not-empty (to j) none (flip o) C (R .1) (h .0)
-      (below-placed (get j .kind) C (get j .rect) (h .0) i (R .0 .shape) c (h .1)) i c l)
-      (λ a. let w = after-placed S (get j .orientation) (h .0) r i a (h .2) in
-      leaf-not-empty p (to j) o S (R .2) (w .0) (w .1) i a l) m
+      let here : i ≡ j → NotEmpty (get i .rect) = λ e. slot-leaf (get i .kind) (get i .rect) (h .0) (PlaceF get C) l (rw e (h .1)) in
+      let placed : In i (slots C) → PlaceF get C (h .0) = λ c. below-placed (get j .kind) C (get j .rect) (h .0) i (R .0 .shape) c (h .1) in
+      let rest : In i (slots S) → (q : Rectangle) × PlaceF get S q = λ a. after-placed S (get j .orientation) (h .0) r i a (h .2) in
+      by-place {G = NotEmpty (get i .rect)} i j C S here
+      (λ c. leaf-not-empty (to j) none (flip o) C (R .1) (h .0) (placed c) i c l)
+      (λ a. leaf-not-empty p (to j) o S (R .2) (rest a .0) (rest a .1) i a l) m

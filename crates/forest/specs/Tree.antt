@@ -47,6 +47,7 @@ total μ (alloc i r t) = μ r + total μ t
 total μ (free i r t) = μ r + total μ t
 total μ (box i r k t) = total μ k + total μ t
 
+-- It ends no sooner than it starts.
 fits-le : (t : Tree) (o : Orientation) (a b c d : ℕ) → Fits o a b c d t → a ≤ b
 fits-le end o a b c d f = omega arith
 fits-le (alloc i r t) o a b c d f = omega (arith, fits-le t o (f .0) b c d (f .3))
