@@ -1,1 +1,3 @@
 pub mod Tests
+pub mod FirstLaws
+pub mod MarkLaws

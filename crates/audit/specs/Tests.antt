@@ -59,11 +59,14 @@ firstFrom p from (suc left) = pick (p from) (firstFrom p (from + 1) left) from
 abbrev pub entryBelow : List ℕ → ℕ → ℕ → Bool
 entryBelow t n k = ltb (getD t k 0) n
 
--- Slot x is marked if it is Free and of this bucket.
+-- Slot x is Free and of this bucket,
+abbrev pub marksFor : List ℕ → ℕ → ℕ → Bucket → ℕ → Bool
+marksFor w small large b x =
+    freeEntry w x && sameBucket (bucketOf small large (widthOf (nodeAt w (slot x) .rect)) (heightOf (nodeAt w (slot x) .rect))) b
+
+-- and is marked if so.
 unfoldable pub marked : List ℕ → ℕ → ℕ → Bucket → ℕ → List ℕ → List ℕ
-marked w small large b x ms =
-    let r = nodeAt w (slot x) .rect in
-    pick (freeEntry w x && sameBucket (bucketOf small large (widthOf r) (heightOf r)) b) (set ms x 1) ms
+marked w small large b x ms = pick (marksFor w small large b x) (set ms x 1) ms
 
 -- The slots of the first k entries are marked.
 unfoldable pub marksTo : List ℕ → ℕ → ℕ → Bucket → List ℕ → ℕ → List ℕ → List ℕ

@@ -21,6 +21,22 @@ pub struct Audit {
     pub place: u32,
 }
 
+// A rule broken at the lowest place that fails its test, or at no single place if none does.
+fn broken(rule: u32, bad: u32, n: u32) -> Audit
+    ensures { λ a. ⌜ a ≡ brokenAt rule bad n ⌝ }
+{
+    if bad < n {
+        return Audit {
+            rule: rule,
+            place: bad,
+        };
+    }
+    Audit {
+        rule: rule,
+        place: 0,
+    }
+}
+
 // The tests that go over the slots one by one.
 pub enum Test {
     Links,
@@ -184,4 +200,41 @@ fn mark_list(words: &[u32], marks: &mut [u8], small: u32, large: u32, bucket: Bu
         mark_entry(words, marks, small, large, bucket, list[k]);
         k += 1;
     }
+}
+
+// Whether a walk from the root came to its end with nothing of the count left.
+fn is_whole(p: Placed) -> bool
+    ensures { λ b. ⌜ b ≡ (p .ended && eqb (p .left) 0) ⌝ }
+{
+    if p.ended {
+        return p.left == 0;
+    }
+    false
+}
+
+// Whether what a walk saw fits together and fills a rectangle.
+fn is_filled(p: Placed, r: Rectangle) -> bool
+    ensures { λ b. ⌜ b ≡ (p .fits && sameRect (p .at) r) ⌝ }
+{
+    let at = p.at;
+    if p.fits {
+        return same_rect(at, r);
+    }
+    false
+}
+
+// Rule 7: the last slot of the top chain, if it is a Container, has its place for its rectangle.
+fn last_holds(words: &[u32], firsts: &[u32], n: u32, live: u32, i: AllocIndex) -> bool
+    requires { ⌜ LastReady (now words) (now firsts) n live (i .0) ⌝ }
+    ensures { λ b. ⌜ LastHolds b (now words .entry) n (i .0) ⌝ }
+{
+    let node = slots::node_at(words, i);
+    let kind = node.kind;
+    if !slots::same_kind(kind, NodeKind::Container) {
+        return true;
+    }
+    let top = n as usize;
+    let p = places::place_of_slot(words, &firsts[..top], i, live);
+    let rect = node.rect;
+    is_filled(p, rect)
 }
