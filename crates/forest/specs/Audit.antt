@@ -33,47 +33,49 @@ pub record Rule3 (get : ℕ → Seen) (n root : ℕ) : Type 0 where
   pub nexts-end : (i : ℕ) → Live get n i → Ends (λ j. get j .next) (to i)
 
 pub rule3-linked : (get : ℕ → Seen) (n root : ℕ) → Rule3 get n root → Linked get n root
-rule3-linked get n root R = record
-  { parent-live = λ i j lv e. R .at i lv .parent-live j e
-  ; next-live = λ i j lv e. R .at i lv .next-live j e
-  ; prev-live = λ i j lv e. R .at i lv .prev-live j e
-  ; next-prev = λ i j lv e. R .at i lv .next-prev j e
-  ; prev-next = λ i j lv e. R .at i lv .prev-next j e
-  ; same-parent = λ i j lv e. R .at i lv .same-parent j e
-  ; same-orientation = λ i j lv e. R .at i lv .same-orientation j e
-  ; parent-kind = λ i j lv e. R .at i lv .parent-kind j e
-  ; parent-orientation = λ i j lv e. R .at i lv .parent-orientation j e
-  ; child = λ i lv k. let c = R .at i lv .child k in (c .0, c .1)
-  ; one-child = λ i c d a b.
+rule3-linked get n root R = record {
+  parent-live = λ i j lv e. R .at i lv .parent-live j e;
+  next-live = λ i j lv e. R .at i lv .next-live j e;
+  prev-live = λ i j lv e. R .at i lv .prev-live j e;
+  next-prev = λ i j lv e. R .at i lv .next-prev j e;
+  prev-next = λ i j lv e. R .at i lv .prev-next j e;
+  same-parent = λ i j lv e. R .at i lv .same-parent j e;
+  same-orientation = λ i j lv e. R .at i lv .same-orientation j e;
+  parent-kind = λ i j lv e. R .at i lv .parent-kind j e;
+  parent-orientation = λ i j lv e. R .at i lv .parent-orientation j e;
+  child = λ i lv k. let c = R .at i lv .child k in (c .0, c .1);
+  one-child = λ i c d a b.
       let lv = R .at c (a .live) .parent-live i (a .parent) in
       let k = R .at c (a .live) .parent-kind i (a .parent) in
-      let w = R .at i lv .child k in w .2 c a ∙ sym (w .2 d b)
-  ; parents-end = R .parents-end
-  ; nexts-end = R .nexts-end
-  ; root-live = R .root-live
-  ; root-parent = R .at root (R .root-live) .root-top refl .0
-  ; root-prev = R .at root (R .root-live) .root-top refl .1
-  ; root-only = λ i lv p v. R .at i lv .root-only p v
-  }
+      let w = R .at i lv .child k in w .2 c a ∙ sym (w .2 d b);
+  parents-end = R .parents-end;
+  nexts-end = R .nexts-end;
+  root-live = R .root-live;
+  root-parent = R .at root (R .root-live) .root-top refl .0;
+  root-prev = R .at root (R .root-live) .root-top refl .1;
+  root-only = λ i lv p v. R .at i lv .root-only p v;
+}
 
 pub linked-rule3 : (get : ℕ → Seen) (n root : ℕ) → Linked get n root → Rule3 get n root
-linked-rule3 get n root L = record
-  { at = λ i lv. record
-      { parent-live = λ j e. L .parent-live i j lv e
-      ; next-live = λ j e. L .next-live i j lv e
-      ; prev-live = λ j e. L .prev-live i j lv e
-      ; next-prev = λ j e. L .next-prev i j lv e
-      ; prev-next = λ j e. L .prev-next i j lv e
-      ; same-parent = λ j e. L .same-parent i j lv e
-      ; same-orientation = λ j e. L .same-orientation i j lv e
-      ; parent-kind = λ j e. L .parent-kind i j lv e
-      ; parent-orientation = λ j e. L .parent-orientation i j lv e
-      ; child = λ k. let c = L .child i lv k in (c .0, c .1, λ d h. L .one-child i d (c .0) h (c .1))
-      ; root-only = λ p v. L .root-only i lv p v
-      ; root-top = λ e. (ap (λ x. get x .parent) e ∙ L .root-parent, ap (λ x. get x .prev) e ∙ L .root-prev) }
-  ; root-live = L .root-live
-  ; parents-end = L .parents-end
-  ; nexts-end = L .nexts-end }
+linked-rule3 get n root L = record {
+  at = λ i lv. record {
+    parent-live = λ j e. L .parent-live i j lv e;
+    next-live = λ j e. L .next-live i j lv e;
+    prev-live = λ j e. L .prev-live i j lv e;
+    next-prev = λ j e. L .next-prev i j lv e;
+    prev-next = λ j e. L .prev-next i j lv e;
+    same-parent = λ j e. L .same-parent i j lv e;
+    same-orientation = λ j e. L .same-orientation i j lv e;
+    parent-kind = λ j e. L .parent-kind i j lv e;
+    parent-orientation = λ j e. L .parent-orientation i j lv e;
+    child = λ k. let c = L .child i lv k in (c .0, c .1, λ d h. L .one-child i d (c .0) h (c .1));
+    root-only = λ p v. L .root-only i lv p v;
+    root-top = λ e. (ap (λ x. get x .parent) e ∙ L .root-parent, ap (λ x. get x .prev) e ∙ L .root-prev);
+  };
+  root-live = L .root-live;
+  parents-end = L .parents-end;
+  nexts-end = L .nexts-end;
+}
 
 -- A scan of the places below `n` stopped at `r`: each before it obeys, and it breaks the rule unless it is the end.
 pub record Lowest (P : ℕ → Type 0) (n r : ℕ) : Type 0 where

@@ -72,17 +72,18 @@ kid-one empty i c d D x y = absurd x
 kid-one (slot a C S) i c d D x y =
     ⊎-elim {C = c ≡ d}
     (λ p. ⊎-elim {C = c ≡ d} (λ q. to-inj (sym (p .1) ∙ q .1))
-      (⊎-elim {C = c ≡ d} (λ k. absurd (notC (p .0) (kid-in C i d k))) (λ k. absurd (notS (p .0) (kid-in S i d k)))) y)
+    (⊎-elim {C = c ≡ d} (λ k. absurd (notC (p .0) (kid-in C i d k))) (λ k. absurd (notS (p .0) (kid-in S i d k)))) y)
     (⊎-elim {C = c ≡ d}
-      (λ l. ⊎-elim {C = c ≡ d} (λ q. absurd (notC (q .0) (kid-in C i c l)))
-        (⊎-elim {C = c ≡ d} (λ k. kid-one C i c d (distinct-left (slots C) (slots S) (D .1)) l k)
-          (λ k. absurd (distinct-apart (slots C) (slots S) (D .1) i (kid-in C i c l) (kid-in S i d k)))) y)
-      (λ l. ⊎-elim {C = c ≡ d} (λ q. absurd (notS (q .0) (kid-in S i c l)))
-        (⊎-elim {C = c ≡ d} (λ k. absurd (distinct-apart (slots C) (slots S) (D .1) i (kid-in C i d k) (kid-in S i c l)))
-          (λ k. kid-one S i c d (distinct-right (slots C) (slots S) (D .1)) l k)) y)) x
+    (λ l. ⊎-elim {C = c ≡ d} (λ q. absurd (notC (q .0) (kid-in C i c l)))
+    (⊎-elim {C = c ≡ d} (λ k. kid-one C i c d (distinct-left (slots C) (slots S) (D .1)) l k)
+    (λ k. absurd (distinct-apart (slots C) (slots S) (D .1) i (kid-in C i c l) (kid-in S i d k)))) y)
+    (λ l. ⊎-elim {C = c ≡ d} (λ q. absurd (notS (q .0) (kid-in S i c l)))
+    (⊎-elim {C = c ≡ d} (λ k. absurd (distinct-apart (slots C) (slots S) (D .1) i (kid-in C i d k) (kid-in S i c l)))
+    (λ k. kid-one S i c d (distinct-right (slots C) (slots S) (D .1)) l k)) y)) x
   where
     notC : i ≡ a → In i (slots C) → ⊥
     notC e m = D .0 (in-left (slots C) (slots S) a (rw (← e) m))
+
     notS : i ≡ a → In i (slots S) → ⊥
     notS e m = D .0 (in-right (slots C) (slots S) a (rw (← e) m))
 
@@ -111,6 +112,7 @@ module _ (get : ℕ → Seen) (n : ℕ) where
       below (top e x y) = child a (inl (refl, e)) y x
       below (sibling b m x y) = sibling b (in-children b a C S m) x y
       below (child b k x y) = child b (inr (inl k)) x y
+
       later : Hangs get S p (to a) i → Hangs get (slot a C S) p v i
       later (top e x y) = sibling a (inl refl) y (r .0 .next ∙ e)
       later (sibling b m x y) = sibling b (in-after b a C S m) x y
@@ -124,18 +126,22 @@ module _ (get : ℕ → Seen) (n : ℕ) where
       by-place {G = G} i a C S
       (λ q. inl (sym (r .0 .parent) ∙ (ap (λ x. get x .parent) (sym q) ∙ e), ap (λ x. get x .orientation) q ∙ r .0 .orientation))
       (λ m. inr (⊎-elim {C = H}
-        (λ w. below (to-inj (w .0)) (w .1) m) (λ w. (in-children j a C S (w .0), w .1, w .2))
-        (parent-of (to a) none (flip o) C (r .1) i j m e)))
+      (λ w. below (to-inj (w .0)) (w .1) m) (λ w. (in-children j a C S (w .0), w .1, w .2))
+      (parent-of (to a) none (flip o) C (r .1) i j m e)))
       (λ m. ⊎-elim {C = G} inl (λ w. inr (in-after j a C S (w .0), w .1, w .2)) (parent-of p (to a) o S (r .2) i j m e)) h
     where
       H : Type 0
       H = In j (slots (slot a C S)) × (get j .kind ≡ Container) × (get j .orientation ≡ flip (get i .orientation))
+
       G : Type 0
       G = ((p ≡ to j) × (get i .orientation ≡ o)) ⊎ H
+
       below : a ≡ j → get i .orientation ≡ flip o → In i (slots C) → H
-      below q w m =
-          (inl (sym q), rw (← q) (shape-container (get a .kind) C i (r .0 .shape) m),
-           rw (← q, w, flip-flip o) (r .0 .orientation))
+      below q w m = (
+        inl (sym q),
+        rw (← q) (shape-container (get a .kind) C i (r .0 .shape) m),
+        rw (← q, w, flip-flip o) (r .0 .orientation),
+      )
 
   next-of : (p v : Link) (o : Orientation) (F : Forest) → Rep get n p v o F → (i j : ℕ) → In i (slots F) → get i .next ≡ to j
       → In j (slots F) × (get j .prev ≡ to i) × (get j .parent ≡ get i .parent) × (get j .orientation ≡ get i .orientation)
@@ -147,13 +153,17 @@ module _ (get : ℕ → Seen) (n : ℕ) where
     where
       G : Type 0
       G = In j (slots (slot a C S)) × (get j .prev ≡ to i) × (get j .parent ≡ get i .parent) × (get j .orientation ≡ get i .orientation)
+
       here : (T : Forest) → Rep get n p (to a) o T → i ≡ a → head T ≡ to j
           → In j (slots T) × (get j .prev ≡ to i) × (get j .parent ≡ get i .parent) × (get j .orientation ≡ get i .orientation)
       here empty s q w = absurd (no-link w)
       here (slot b B U) s q w =
-          let z = to-inj w in
-          (inl (sym z), rw (← z, q) (s .0 .prev), rw (← z, q) (s .0 .parent ∙ sym (r .0 .parent)),
-           rw (← z, q) (s .0 .orientation ∙ sym (r .0 .orientation)))
+          let z = to-inj w in (
+            inl (sym z),
+            rw (← z, q) (s .0 .prev),
+            rw (← z, q) (s .0 .parent ∙ sym (r .0 .parent)),
+            rw (← z, q) (s .0 .orientation ∙ sym (r .0 .orientation)),
+          )
 
   children-of : (p v : Link) (o : Orientation) (F : Forest) → Rep get n p v o F → (i : ℕ) → In i (slots F) → get i .kind ≡ Container
       → (c : ℕ) × FirstChild get n i c
@@ -243,23 +253,23 @@ module _ (get : ℕ → Seen) (n root : ℕ) (F : Forest) (R : Represents get n 
   root-at i p v (child a k x y) = absurd (no-link (sym p ∙ y))
 
   pub linked : Linked get n root
-  linked = record
-    { parent-live = λ i j lv e. live-in j (parent-at i j lv e .0)
-    ; next-live = λ i j lv e. live-in j (next-at i j lv e .0)
-    ; prev-live = λ i j lv e. live-in j (prev-at i j e (hung i lv) .0)
-    ; next-prev = λ i j lv e. next-at i j lv e .1
-    ; prev-next = λ i j lv e. prev-at i j e (hung i lv) .1
-    ; same-parent = λ i j lv e. next-at i j lv e .2
-    ; same-orientation = λ i j lv e. next-at i j lv e .3
-    ; parent-kind = λ i j lv e. parent-at i j lv e .1
-    ; parent-orientation = λ i j lv e. parent-at i j lv e .2
-    ; child = λ i lv k. children-of get n none none (get root .orientation) F (R .along) i (R .all i lv) k
-    ; one-child = λ i c d a b. kid-one F i c d different
-        (kid-at i c (a .parent) (a .prev) (hung c (a .live))) (kid-at i d (b .parent) (b .prev) (hung d (b .live)))
-    ; parents-end = λ i lv. parents-end get n none none (get root .orientation) F (R .along) arrived i (R .all i lv)
-    ; nexts-end = λ i lv. all-nexts-end get n none none (get root .orientation) F (R .along) i (R .all i lv)
-    ; root-live = live-in root root-in
-    ; root-parent = root-links .0
-    ; root-prev = root-links .1
-    ; root-only = λ i lv p v. root-at i p v (hung i lv)
-    }
+  linked = record {
+    parent-live = λ i j lv e. live-in j (parent-at i j lv e .0);
+    next-live = λ i j lv e. live-in j (next-at i j lv e .0);
+    prev-live = λ i j lv e. live-in j (prev-at i j e (hung i lv) .0);
+    next-prev = λ i j lv e. next-at i j lv e .1;
+    prev-next = λ i j lv e. prev-at i j e (hung i lv) .1;
+    same-parent = λ i j lv e. next-at i j lv e .2;
+    same-orientation = λ i j lv e. next-at i j lv e .3;
+    parent-kind = λ i j lv e. parent-at i j lv e .1;
+    parent-orientation = λ i j lv e. parent-at i j lv e .2;
+    child = λ i lv k. children-of get n none none (get root .orientation) F (R .along) i (R .all i lv) k;
+    one-child = λ i c d a b. kid-one F i c d different
+        (kid-at i c (a .parent) (a .prev) (hung c (a .live))) (kid-at i d (b .parent) (b .prev) (hung d (b .live)));
+    parents-end = λ i lv. parents-end get n none none (get root .orientation) F (R .along) arrived i (R .all i lv);
+    nexts-end = λ i lv. all-nexts-end get n none none (get root .orientation) F (R .along) i (R .all i lv);
+    root-live = live-in root root-in;
+    root-parent = root-links .0;
+    root-prev = root-links .1;
+    root-only = λ i lv p v. root-at i p v (hung i lv);
+  }

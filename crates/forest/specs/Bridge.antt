@@ -51,9 +51,12 @@ module _ (get : ℕ → Seen) (n root : ℕ) (L : Linked get n root) where
   one p v o i f kids S = go (get i .kind) refl
     where
       make : (C : Forest) → Shape (get i .kind) C → Rep get n (to i) none (flip o) C → Chain get n p v o (to i)
-      make C sh r =
-          (slot i C (S .0), refl,
-           (record { below = f .0 .0; parent = f .1; prev = f .2; orientation = f .3; next = sym (S .1); shape = sh }, r, S .2))
+      make C sh r = (
+        slot i C (S .0),
+        refl,
+        (record { below = f .0 .0; parent = f .1; prev = f .2; orientation = f .3; next = sym (S .1); shape = sh }, r, S .2),
+      )
+
       go : (k : NodeKind) → get i .kind ≡ k → Chain get n p v o (to i)
       go Container e = let K = kids e in make (K .0) (rw e (K .1)) (rw (f .3) at (K .2))
       go Alloc e = make empty (rw e tt) tt
@@ -68,7 +71,7 @@ module _ (get : ℕ → Seen) (n root : ℕ) (L : Linked get n root) where
       let f′ : Fits get n p v o (to (e .0)) = rw (e .1) at f in
       rw (e .1)
       (one p v o (e .0) f′ (kids (e .0) (f′ .0) (f′ .1))
-       (chain p o kids m (to (e .0)) (get (e .0) .next) (e .2) (next-fits p v o (e .0) f′ (get (e .0) .next) refl)))
+      (chain p o kids m (to (e .0)) (get (e .0) .next) (e .2) (next-fits p v o (e .0) f′ (get (e .0) .next) refl)))
 
   -- Parents are at most as many as the live slots, so their number bounds how deep the children go.
   depth-bound : (i d : ℕ) → Live get n i → EndsIn (λ j. get j .parent) (to i) d → d ≤ count (λ j. inUse (get j .kind)) n
@@ -88,10 +91,10 @@ module _ (get : ℕ → Seen) (n root : ℕ) (L : Linked get n root) where
       let fc = L .child i lv c in
       let en = ends-in (L .nexts-end (fc .0) (fc .1 .live)) in
       let o : get (fc .0) .orientation ≡ flip (get i .orientation) =
-              sym (ap flip (L .parent-orientation (fc .0) i (fc .1 .live) (fc .1 .parent)) ∙ flip-flip (get (fc .0) .orientation)) in
+      sym (ap flip (L .parent-orientation (fc .0) i (fc .1 .live) (fc .1 .parent)) ∙ flip-flip (get (fc .0) .orientation)) in
       let r = chain (to i) (flip (get i .orientation))
-              (λ j lj pj cj. kids k (suc d) j lj (j, refl, rw pj e) (omega arith) cj)
-              (en .0) none (to (fc .0)) (en .1) (fc .1 .live, fc .1 .parent, fc .1 .prev, o) in
+      (λ j lj pj cj. kids k (suc d) j lj (j, refl, rw pj e) (omega arith) cj)
+      (en .0) none (to (fc .0)) (en .1) (fc .1 .live, fc .1 .parent, fc .1 .prev, o) in
       (r .0, full (r .0) (r .1), r .2)
     where
       full : (C : Forest) → {c : ℕ} → head C ≡ to c → Full C
@@ -116,8 +119,8 @@ module _ (get : ℕ → Seen) (n root : ℕ) (L : Linked get n root) where
   next-in p v o (slot a C S) r j i h e =
       ⊎-elim {C = In i (slots (slot a C S))} (λ q. in-after i a C S (head-in S i (sym (r .0 .next) ∙ (ap (λ x. get x .next) (sym q) ∙ e))))
       (λ m. ⊎-elim {C = In i (slots (slot a C S))}
-        (λ c. in-children i a C S (next-in (to a) none (flip o) C (r .1) j i c e))
-        (λ s. in-after i a C S (next-in p (to a) o S (r .2) j i s e)) m) (in-slot j a C S h)
+      (λ c. in-children i a C S (next-in (to a) none (flip o) C (r .1) j i c e))
+      (λ s. in-after i a C S (next-in p (to a) o S (r .2) j i s e)) m) (in-slot j a C S h)
 
   shape-live : (k : NodeKind) (C : Forest) → Shape k C → inUse k ≡ true
   shape-live Container C h = refl
@@ -132,14 +135,14 @@ module _ (get : ℕ → Seen) (n root : ℕ) (L : Linked get n root) where
   child-in p v o (slot a C S) r j i h k e =
       ⊎-elim {C = In i (slots (slot a C S))} (λ q. in-children i a C S (below C (r .1) (rw (← q) at (r .0 .shape)) q))
       (λ m. ⊎-elim {C = In i (slots (slot a C S))}
-        (λ c. in-children i a C S (child-in (to a) none (flip o) C (r .1) j i c k e))
-        (λ s. in-after i a C S (child-in p (to a) o S (r .2) j i s k e)) m) (in-slot j a C S h)
+      (λ c. in-children i a C S (child-in (to a) none (flip o) C (r .1) j i c k e))
+      (λ s. in-after i a C S (child-in p (to a) o S (r .2) j i s k e)) m) (in-slot j a C S h)
     where
       below : (C : Forest) → Rep get n (to a) none (flip o) C → Shape (get j .kind) C → j ≡ a → In i (slots C)
       below empty r′ sh q = absurd (rw k at sh)
       below (slot c B T) r′ sh q =
           inl (L .one-child j i c e
-            (record { live = (r′ .0 .below, shape-live (get c .kind) B (r′ .0 .shape)); parent = r′ .0 .parent ∙ ap to (sym q); prev = r′ .0 .prev }))
+          (record { live = (r′ .0 .below, shape-live (get c .kind) B (r′ .0 .shape)); parent = r′ .0 .parent ∙ ap to (sym q); prev = r′ .0 .prev }))
 
   -- Every live slot is in the forest: back along prev to a first one, and up from there.
   module _ (F : Forest) (hd : head F ≡ to root) (R : Rep get n none none (get root .orientation) F) where
@@ -151,15 +154,17 @@ module _ (get : ℕ → Seen) (n root : ℕ) (L : Linked get n root) where
       where
         e′ : EndsIn (λ j. get j .parent) (get i .parent) d
         e′ = rw (to-inj (e .1)) (e .2)
+
         first : (l : Link) → get i .parent ≡ l → get i .prev ≡ none → In i (slots F)
         first none pe ve = rw (L .root-only i lv pe ve) (head-in F root hd)
         first (to j) pe ve =
             child-in none none (get root .orientation) F R j i
             (up j (L .parent-live i j lv pe) (rw pe at e′)) (L .parent-kind i j lv pe)
             (record { live = lv; parent = pe; prev = ve })
+
         go : (l : Link) → get i .prev ≡ l
             → ((j : ℕ) → Live get n j → EndsIn (λ j. get j .parent) (to j) (suc d) → EndsIn (λ j. get j .next) (to j) (suc m)
-                → suc m + k ≡ suc (count (λ j. inUse (get j .kind)) n) → In j (slots F)) → In i (slots F)
+            → suc m + k ≡ suc (count (λ j. inUse (get j .kind)) n) → In j (slots F)) → In i (slots F)
         go none ve rec = first (get i .parent) refl ve
         go (to j) ve rec =
             let lj = L .prev-live i j lv ve in
@@ -177,8 +182,11 @@ module _ (get : ℕ → Seen) (n root : ℕ) (L : Linked get n root) where
   -- THE BRIDGE, from the rules to the forest.
   pub forest : (F : Forest) × Represents get n root F
   forest =
-      let g = grown in
-      (g .0, record
-        { from-root = g .1
-        ; along = g .2
-        ; all = λ i lv. let e = ends-in (L .parents-end i lv) in cover (g .0) (g .1) (g .2) (e .0) i lv (e .1) })
+      let g = grown in (
+        g .0,
+        record {
+          from-root = g .1;
+          along = g .2;
+          all = λ i lv. let e = ends-in (L .parents-end i lv) in cover (g .0) (g .1) (g .2) (e .0) i lv (e .1);
+        },
+      )

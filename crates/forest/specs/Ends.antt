@@ -45,6 +45,7 @@ ends-unique f l (suc k) (suc m) a b =
   where
     inj : {i j : ℕ} → to i ≡ to j → i ≡ j
     inj p = cc
+
     same : a .0 ≡ b .0
     same = inj (sym (a .1) ∙ b .1)
 
@@ -95,5 +96,5 @@ pub ends-bounded : (f : ℕ → Link) (p : ℕ → Bool) (n : ℕ)
     → (k : ℕ) → EndsIn f l k → k ≤ count p n
 ends-bounded f p n closed l start k e =
     let r = pigeon p n (path f l k e) (path-distinct f l k e)
-            (path-stays f (λ i. (i < n) × (p i ≡ true)) closed l start k e) in
+    (path-stays f (λ i. (i < n) × (p i ≡ true)) closed l start k e) in
     omega (arith, path-length f l k e)

@@ -103,15 +103,17 @@ module _ (get : ℕ → Seen) (n root : ℕ) (first : ℕ → Link) (L : Local g
       → Rep get n p v o F
   unfolding kidsOf nextOf
   follows-rep p v o empty f h = tt
-  follows-rep p v o (slot i C S) f h =
-      (record { below = me .0 .0; parent = me .1; prev = me .2; orientation = me .3; next = f .1; shape = shape (get i .kind) refl },
-       follows-rep (to i) none (flip o) C (f .2) (λ j e. kid j (f .0 ∙ e)),
-       follows-rep p (to i) o S (f .3)
+  follows-rep p v o (slot i C S) f h = (
+    record { below = me .0 .0; parent = me .1; prev = me .2; orientation = me .3; next = f .1; shape = shape (get i .kind) refl },
+    follows-rep (to i) none (flip o) C (f .2) (λ j e. kid j (f .0 ∙ e)),
+    follows-rep p (to i) o S (f .3)
         (λ j e. let q = f .1 ∙ e in
-           (L .next-live i j (me .0) q, L .same-parent i j (me .0) q ∙ me .1, L .next-prev i j (me .0) q, L .same-orientation i j (me .0) q ∙ me .3)))
+        (L .next-live i j (me .0) q, L .same-parent i j (me .0) q ∙ me .1, L .next-prev i j (me .0) q, L .same-orientation i j (me .0) q ∙ me .3)),
+  )
     where
       me : Live get n i × (get i .parent ≡ p) × (get i .prev ≡ v) × (get i .orientation ≡ o)
       me = h i refl
+
       shape : (k : NodeKind) → get i .kind ≡ k → Shape (get i .kind) C
       shape Container e =
           let c = L .child i (me .0) e in
@@ -133,6 +135,7 @@ module _ (get : ℕ → Seen) (n root : ℕ) (first : ℕ → Link) (L : Local g
           bare empty q = tt
           bare (slot a B U) q = no-link q
       shape Unused e = absurd (false≢true (rw e at (me .0 .1)))
+
       kid : (j : ℕ) → down (get i .kind) (first i) ≡ to j
           → Live get n j × (get j .parent ≡ to i) × (get j .prev ≡ none) × (get j .orientation ≡ flip o)
       kid j e = go (get i .kind) refl e
@@ -143,7 +146,7 @@ module _ (get : ℕ → Seen) (n root : ℕ) (first : ℕ → Link) (L : Local g
               let c = L .child i (me .0) k in
               let z : j ≡ c .0 = to-inj (sym q ∙ table i (c .0) (me .0) k (c .1)) in
               let w : get (c .0) .orientation ≡ flip o =
-                      sym (ap flip (sym (me .3) ∙ L .parent-orientation (c .0) i (c .1 .live) (c .1 .parent)) ∙ flip-flip (get (c .0) .orientation)) in
+              sym (ap flip (sym (me .3) ∙ L .parent-orientation (c .0) i (c .1 .live) (c .1 .parent)) ∙ flip-flip (get (c .0) .orientation)) in
               rw z (c .1 .live, c .1 .parent, c .1 .prev, w)
           go Alloc k q = absurd (no-link q)
           go Free k q = absurd (no-link q)
@@ -156,11 +159,13 @@ module _ (get : ℕ → Seen) (n root : ℕ) (first : ℕ → Link) (L : Local g
   whole-size : (F : Forest) → Represents get n root F → size F ≡ live
   unfolding live
   whole-size F R =
-      omega
-      (arith, size-slots F,
-       pigeon (λ j. inUse (get j .kind)) n (slots F) (rep-distinct get n none none (get root .orientation) F (R .along) 0 refl)
-        (λ a m. in-live get n none none (get root .orientation) F (R .along) a m),
-       cover-length (slots F) (λ j. inUse (get j .kind)) n (λ i l t. R .all i (l, t)))
+      omega (
+        arith,
+        size-slots F,
+        pigeon (λ j. inUse (get j .kind)) n (slots F) (rep-distinct get n none none (get root .orientation) F (R .along) 0 refl)
+            (λ a m. in-live get n none none (get root .orientation) F (R .along) a m),
+        cover-length (slots F) (λ j. inUse (get j .kind)) n (λ i l t. R .all i (l, t)),
+      )
 
   -- EXACT: links that obey rule 3 slot by slot obey it whole just where a forest of all live slots follows from the root.
   pub linked-follows : Linked get n root → (F : Forest) × (head F ≡ to root) × Follows kidsOf nextOf F × (size F ≡ live)
@@ -172,15 +177,16 @@ module _ (get : ℕ → Seen) (n root : ℕ) (first : ℕ → Link) (L : Local g
   unfolding live
   follows-represents F h f z =
       let R : Rep get n none none (get root .orientation) F =
-              follows-rep none none (get root .orientation) F f
-              (λ i q. rw (to-inj (sym q ∙ h)) (L .root-live, L .root-parent, L .root-prev, refl)) in
-      record
-        { from-root = h
-        ; along = R
-        ; all = λ i lv. pigeon-all (λ j. inUse (get j .kind)) n (slots F)
+      follows-rep none none (get root .orientation) F f
+      (λ i q. rw (to-inj (sym q ∙ h)) (L .root-live, L .root-parent, L .root-prev, refl)) in
+      record {
+        from-root = h;
+        along = R;
+        all = λ i lv. pigeon-all (λ j. inUse (get j .kind)) n (slots F)
             (rep-distinct get n none none (get root .orientation) F R 0 refl)
             (λ a m. in-live get n none none (get root .orientation) F R a m)
-            (omega (arith, size-slots F)) i (lv .0) (lv .1) }
+            (omega (arith, size-slots F)) i (lv .0) (lv .1);
+      }
 
   pub follows-linked : (F : Forest) → head F ≡ to root → Follows kidsOf nextOf F → size F ≡ live → Linked get n root
   follows-linked F h f z = linked get n root F (follows-represents F h f z)

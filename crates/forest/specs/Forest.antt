@@ -83,9 +83,10 @@ in-cases (x ∷ xs) ys a h =
 
 pub distinct-append : (xs ys : List ℕ) → Distinct xs → Distinct ys → ((a : ℕ) → In a xs → In a ys → ⊥) → Distinct (xs ++ ys)
 distinct-append [] ys dx dy h = dy
-distinct-append (x ∷ xs) ys dx dy h =
-    (λ m. ⊎-elim (dx .0) (h x (inl refl)) (in-cases xs ys x m),
-     distinct-append xs ys (dx .1) dy (λ a l r. h a (inr l) r))
+distinct-append (x ∷ xs) ys dx dy h = (
+  λ m. ⊎-elim (dx .0) (h x (inl refl)) (in-cases xs ys x m),
+  distinct-append xs ys (dx .1) dy (λ a l r. h a (inr l) r),
+)
 
 -- Where a slot of the forest stands: at its head, among the children, or after.
 pub in-slot : (j i : ℕ) (C S : Forest) → In j (slots (slot i C S)) → (j ≡ i) ⊎ (In j (slots C) ⊎ In j (slots S))
@@ -135,15 +136,18 @@ reach-head get n p v o empty r j h = absurd h
 reach-head get n p v o (slot i C S) r j h =
     ⊎-elim {C = Goal} here
     (λ m. ⊎-elim {C = Goal}
-      (λ c. hung (reach-head get n (to i) none (flip o) C (r .1) j c))
-      (λ s. hung (reach-head get n p (to i) o S (r .2) j s)) m) (in-slot j i C S h)
+    (λ c. hung (reach-head get n (to i) none (flip o) C (r .1) j c))
+    (λ s. hung (reach-head get n p (to i) o S (r .2) j s)) m) (in-slot j i C S h)
   where
     Goal : Type 0
     Goal = (a : ℕ) × (m : ℕ) × (to i ≡ to a) × (upOf get a ≡ orElse v p) × Reach (upOf get) (to j) m a
+
     up : upOf get i ≡ orElse v p
     up = rw (r .0 .prev, r .0 .parent) refl
+
     here : j ≡ i → Goal
     here e = (i, 0, refl, up, ap to e)
+
     hung : {l : Link} → (a : ℕ) × (m : ℕ) × (l ≡ to a) × (upOf get a ≡ to i) × Reach (upOf get) (to j) m a → Goal
     hung q = (i, suc (q .1), refl, up, reach-more (upOf get) (to j) (q .1) (q .0) i (q .4) (q .3))
 
@@ -157,30 +161,35 @@ head-prev get n p v o (slot i C S) r a e = rw (← to-inj e) (r .0 .prev)
 pub rep-distinct : (get : ℕ → Seen) (n : ℕ) (p v : Link) (o : Orientation) (F : Forest) → Rep get n p v o F
     → (d : ℕ) → EndsIn (upOf get) (orElse v p) d → Distinct (slots F)
 rep-distinct get n p v o empty r d e = tt
-rep-distinct get n p v o (slot i C S) r d e =
-    (λ m. ⊎-elim notC notS (in-cases (slots C) (slots S) i m),
-     distinct-append (slots C) (slots S)
+rep-distinct get n p v o (slot i C S) r d e = (
+  λ m. ⊎-elim notC notS (in-cases (slots C) (slots S) i m),
+  distinct-append (slots C) (slots S)
       (rep-distinct get n (to i) none (flip o) C (r .1) (suc d) rank)
-      (rep-distinct get n p (to i) o S (r .2) (suc d) rank) apart)
+      (rep-distinct get n p (to i) o S (r .2) (suc d) rank) apart,
+)
   where
     rank : EndsIn (upOf get) (to i) (suc d)
     rank = (i, refl, rw (r .0 .prev, r .0 .parent) e)
+
     high : (j a m : ℕ) → upOf get a ≡ to i → Reach (upOf get) (to j) m a → EndsIn (upOf get) (to j) (suc (m + suc d))
     high j a m u q = reach-ends (upOf get) (to j) m a (suc d) (m + suc d) q (rw u rank) refl
+
     notC : In i (slots C) → ⊥
     notC h =
         let q = reach-head get n (to i) none (flip o) C (r .1) i h in
         omega (arith, ends-unique (upOf get) (to i) (suc d) (suc (q .1 + suc d)) rank (high i (q .0) (q .1) (q .3) (q .4)))
+
     notS : In i (slots S) → ⊥
     notS h =
         let q = reach-head get n p (to i) o S (r .2) i h in
         omega (arith, ends-unique (upOf get) (to i) (suc d) (suc (q .1 + suc d)) rank (high i (q .0) (q .1) (q .3) (q .4)))
+
     apart : (j : ℕ) → In j (slots C) → In j (slots S) → ⊥
     apart j hc hs =
         let q = reach-head get n (to i) none (flip o) C (r .1) j hc in
         let s = reach-head get n p (to i) o S (r .2) j hs in
         let same : q .1 ≡ s .1 =
-            omega (arith, ends-unique (upOf get) (to j) (suc (q .1 + suc d)) (suc (s .1 + suc d)) (high j (q .0) (q .1) (q .3) (q .4)) (high j (s .0) (s .1) (s .3) (s .4))) in
+        omega (arith, ends-unique (upOf get) (to j) (suc (q .1 + suc d)) (suc (s .1 + suc d)) (high j (q .0) (q .1) (q .3) (q .4)) (high j (s .0) (s .1) (s .3) (s .4))) in
         let one : q .0 ≡ s .0 = reach-one (upOf get) (to j) (s .1) (q .0) (s .0) (rw same at (q .4)) (s .4) in
         let pc : get (q .0) .prev ≡ none = head-prev get n (to i) none (flip o) C (r .1) (q .0) (q .2) in
         let ps : get (s .0) .prev ≡ to i = head-prev get n p (to i) o S (r .2) (s .0) (s .2) in

@@ -63,7 +63,7 @@ module _ (get : ℕ → Seen) (n : ℕ) where
       let same : a ≡ i = cc in
       rw (← same)
       (after S (r .0 .next) (r .2) (h .2) (λ j q t x. place-table p (to a) o S (r .2) j q t x)
-        (slot-table a (flip o) C (r .1) (λ j q t x. place-table (to a) none (flip o) C (r .1) j q t x) (get a .kind) refl (h .0) (h .1)))
+      (slot-table a (flip o) C (r .1) (λ j q t x. place-table (to a) none (flip o) C (r .1) j q t x) (get a .kind) refl (h .0) (h .1)))
     where
       after : (T : Forest) → get a .next ≡ head T → Rep get n p (to a) o T → Then T (get a .orientation) (h .0) (PlaceF get T) w
           → ((j : ℕ) → head T ≡ to j → (t : Rectangle) → PlaceF get T t → PlaceChain get n j t) → PlaceSlot get n a (h .0) → PlaceChain get n a w
@@ -121,8 +121,8 @@ module _ (get : ℕ → Seen) (n : ℕ) where
     table-place p v o (slot a C S) r i e w h =
         let same : i ≡ a = cc in
         go (chain-parts (rw same at h))
-          (λ q x. table-slot a (flip o) C (r .1) (λ j z t y. table-place (to a) none (flip o) C (r .1) j z t y) (r .0 .shape) q (slot-parts x))
-          S (r .0 .next) (λ j z t y. table-place p (to a) o S (r .2) j z t y)
+        (λ q x. table-slot a (flip o) C (r .1) (λ j z t y. table-place (to a) none (flip o) C (r .1) j z t y) (r .0 .shape) q (slot-parts x))
+        S (r .0 .next) (λ j z t y. table-place p (to a) o S (r .2) j z t y)
       where
         go : ChainParts a w → ((q : Rectangle) → PlaceSlot get n a q → SlotAt (get a .kind) (get a .rect) (PlaceF get C) q)
             → (T : Forest) → get a .next ≡ head T → ((j : ℕ) → head T ≡ to j → (t : Rectangle) → PlaceChain get n j t → PlaceF get T t)
@@ -130,6 +130,8 @@ module _ (get : ℕ → Seen) (n : ℕ) where
         go (inl x) me empty nx rec = (w, me w (x .1), refl)
         go (inl x) me (slot j B U) nx rec = absurd (no-link (sym (x .0) ∙ nx))
         go (inr x) me empty nx rec = absurd (no-link (sym nx ∙ x .3))
-        go (inr x) me (slot j B U) nx rec =
-            (x .1, me (x .1) (x .4),
-             (x .2, rec j refl (x .2) (rw (to-inj (sym nx ∙ x .3)) (x .5)), x .6, x .7))
+        go (inr x) me (slot j B U) nx rec = (
+          x .1,
+          me (x .1) (x .4),
+          (x .2, rec j refl (x .2) (rw (to-inj (sym nx ∙ x .3)) (x .5)), x .6, x .7),
+        )

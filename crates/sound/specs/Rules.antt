@@ -49,6 +49,7 @@ mutual
   pub data PlaceSlot (get : ℕ → Seen) (n : ℕ) : ℕ → Rectangle → Type 0 where
     own : {i : ℕ} → Leaf (get i .kind) → NotEmpty (get i .rect) → PlaceSlot get n i (get i .rect)
     children : {i c : ℕ} {r : Rectangle} → get i .kind ≡ Container → FirstChild get n i c → PlaceChain get n c r → PlaceSlot get n i r
+
   pub data PlaceChain (get : ℕ → Seen) (n : ℕ) : ℕ → Rectangle → Type 0 where
     last : {i : ℕ} {r : Rectangle} → get i .next ≡ none → PlaceSlot get n i r → PlaceChain get n i r
     more : {i j : ℕ} {r s : Rectangle} → get i .next ≡ to j → PlaceSlot get n i r → PlaceChain get n j s → Adjoin (get i .orientation) r s → PlaceChain get n i (join r s)

@@ -98,14 +98,14 @@ module _ (sheet : Size) (options : AllocatorOptions) (w g a b c : List ℕ) (L :
   started-sound =
       record {
         rule1 =
-          record {
-            some = omega arith;
-            fits = simp length-set (L .some);
-            valid = valid;
-            within = λ k. lists-fine k .0;
-            root = omega arith;
-            entries = λ k. lists-fine k .1;
-          };
+            record {
+              some = omega arith;
+              fits = simp length-set (L .some);
+              valid = valid;
+              within = λ k. lists-fine k .0;
+              root = omega arith;
+              entries = λ k. lists-fine k .1;
+            };
         rule2 = lone-spare (seen after) (sheetOf sheet) slot-zero;
         rule3 = lone-linked (seen after) (sheetOf sheet) slot-zero;
         rule4 = lone-merged (seen after) (sheetOf sheet) slot-zero;

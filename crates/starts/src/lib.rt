@@ -87,7 +87,12 @@ fn begin(
         ≡ started sheet options (now (words .entry)) (now (generations .entry)) (now (small .entry)) (now (medium .entry)) (now (large .entry)) ⌝ }
 {
     let setup = geometry::setup_of(sheet, options);
-    let bucket = geometry::free_list_for_size(setup.small, setup.large, setup.sheet.width, setup.sheet.height);
+    let bucket = geometry::free_list_for_size(
+        setup.small,
+        setup.large,
+        setup.sheet.width,
+        setup.sheet.height,
+    );
     slots::put_node(words, AllocIndex(0), whole_sheet(setup));
     generations[0] = 0;
     let none = Lengths {
@@ -120,7 +125,13 @@ pub fn start(
     ensures { λ r. ⌜ outcome (r .answer) (state (r .head) (now (words .exit)) (now (generations .exit)) (now (small .exit)) (now (medium .exit)) (now (large .exit)))
         ≡ startCall sheet options (state head (now (words .entry)) (now (generations .entry)) (now (small .entry)) (now (medium .entry)) (now (large .entry))) ⌝ }
 {
-    if !is_lent(words.len(), generations.len(), small.len(), medium.len(), large.len()) {
+    if !is_lent(
+        words.len(),
+        generations.len(),
+        small.len(),
+        medium.len(),
+        large.len(),
+    ) {
         return Begun {
             answer: 1,
             head: head,
@@ -153,15 +164,40 @@ pub fn reset(
     ensures { λ r. ⌜ outcome (r .answer) (state (r .head) (now (words .exit)) (now (generations .exit)) (now (small .exit)) (now (medium .exit)) (now (large .exit)))
         ≡ startCall sheet options (state head (now (words .entry)) (now (generations .entry)) (now (small .entry)) (now (medium .entry)) (now (large .entry))) ⌝ }
 {
-    start(words, generations, small, medium, large, head, sheet, options)
+    start(
+        words,
+        generations,
+        small,
+        medium,
+        large,
+        head,
+        sheet,
+        options,
+    )
 }
 
 // The same sheet again, empty.
-pub fn clear(words: &mut [u32], generations: &mut [u8], small: &mut [u32], medium: &mut [u32], large: &mut [u32], head: Head) -> Begun
+pub fn clear(
+    words: &mut [u32],
+    generations: &mut [u8],
+    small: &mut [u32],
+    medium: &mut [u32],
+    large: &mut [u32],
+    head: Head,
+) -> Begun
     ensures { λ r. ⌜ outcome (r .answer) (state (r .head) (now (words .exit)) (now (generations .exit)) (now (small .exit)) (now (medium .exit)) (now (large .exit)))
         ≡ clearCall (state head (now (words .entry)) (now (generations .entry)) (now (small .entry)) (now (medium .entry)) (now (large .entry))) ⌝ }
 {
     let sheet = head.sheet;
     let options = head.options;
-    start(words, generations, small, medium, large, head, sheet, options)
+    start(
+        words,
+        generations,
+        small,
+        medium,
+        large,
+        head,
+        sheet,
+        options,
+    )
 }

@@ -1,3 +1,0 @@
-pub mod Tests
-pub mod FirstLaws
-pub mod MarkLaws
