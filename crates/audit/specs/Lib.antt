@@ -1,3 +1,7 @@
 pub mod Tests
+pub mod Audited
+pub mod LastLaws
+pub mod Judged
 pub mod FirstLaws
 pub mod MarkLaws
+pub mod JudgeLaws

@@ -2,6 +2,7 @@
 use geometry::Bucket;
 use geometry::Rectangle;
 use geometry::Setup;
+use lists::Lengths;
 use places::Placed;
 use slots::AllocIndex;
 use slots::NodeKind;
@@ -13,25 +14,35 @@ ghost use Rattle.geometry.specs.Buckets.{rank};
 ghost use Rattle.slots.specs.Slots.{slot, HasSlot};
 ghost use Rattle.lists.specs.Lists.{bag, Each};
 ghost use Rattle.links.specs.Links.{Table};
+ghost use Rattle.lists.specs.FreeLists.{lists};
+ghost use Rattle.geometry.specs.Sides.{setupOf};
+ghost use Rattle.sound.specs.View.{seen};
+ghost use Rattle.sound.specs.Sound.{sheetOf};
+ghost use Rattle.steps.specs.State.{state};
+ghost use Rattle.starts.specs.Lent.{Lent};
+ghost use Rattle.links.specs.TestLaws.{Says};
+ghost use Rattle.audit.specs.LastLaws.{LastHolds};
+ghost use Rattle.audit.specs.Audited.{numbersHold, entryFound, entriesFound, firstsOf, Audited, Checked};
+ghost use Rattle.audit.specs.Judged.{brokenAt, isWhole, isFilled, marksOf, Prepared, Walked, LastReady, Judged, EntriesReady, TreeReady};
 ghost use Rattle.audit.specs.Tests.{sameRect, filledAt, listedAt, notLastAt, holdsAt, firstFrom, marked, marksTo, entryBelow};
 
 // What the check found: the lowest-numbered rule that is broken, 0 for none, and the lowest place that breaks it, 0 where no single place does.
-pub struct Audit {
+pub struct Verdict {
     pub rule: u32,
     pub place: u32,
 }
 
 // A rule broken at the lowest place that fails its test, or at no single place if none does.
-fn broken(rule: u32, bad: u32, n: u32) -> Audit
+fn broken(rule: u32, bad: u32, n: u32) -> Verdict
     ensures { λ a. ⌜ a ≡ brokenAt rule bad n ⌝ }
 {
     if bad < n {
-        return Audit {
+        return Verdict {
             rule: rule,
             place: bad,
         };
     }
-    Audit {
+    Verdict {
         rule: rule,
         place: 0,
     }
@@ -204,37 +215,210 @@ fn mark_list(words: &[u32], marks: &mut [u8], small: u32, large: u32, bucket: Bu
 
 // Whether a walk from the root came to its end with nothing of the count left.
 fn is_whole(p: Placed) -> bool
-    ensures { λ b. ⌜ b ≡ (p .ended && eqb (p .left) 0) ⌝ }
+    ensures { λ b. ⌜ b ≡ isWhole p ⌝ }
 {
-    if p.ended {
-        return p.left == 0;
+    if !p.ended {
+        return false;
     }
-    false
+    p.left == 0
 }
 
 // Whether what a walk saw fits together and fills a rectangle.
 fn is_filled(p: Placed, r: Rectangle) -> bool
-    ensures { λ b. ⌜ b ≡ (p .fits && sameRect (p .at) r) ⌝ }
+    ensures { λ b. ⌜ b ≡ isFilled p r ⌝ }
 {
-    let at = p.at;
-    if p.fits {
-        return same_rect(at, r);
+    if !p.fits {
+        return false;
     }
-    false
+    let at = p.at;
+    same_rect(at, r)
 }
 
 // Rule 7: the last slot of the top chain, if it is a Container, has its place for its rectangle.
 fn last_holds(words: &[u32], firsts: &[u32], n: u32, live: u32, i: AllocIndex) -> bool
     requires { ⌜ LastReady (now words) (now firsts) n live (i .0) ⌝ }
-    ensures { λ b. ⌜ LastHolds b (now words .entry) n (i .0) ⌝ }
+    ensures { λ b. ⌜ Says b (LastHolds (seen (now (words .entry))) n (i .0)) ⌝ }
 {
     let node = slots::node_at(words, i);
     let kind = node.kind;
     if !slots::same_kind(kind, NodeKind::Container) {
         return true;
     }
-    let top = n as usize;
-    let p = places::place_of_slot(words, &firsts[..top], i, live);
+    let p = places::place_of_slot(words, firsts, i, live);
     let rect = node.rect;
     is_filled(p, rect)
+}
+
+// Rules 4 to 7, where rule 3 holds and it is known whether the top chain fills the sheet.
+fn audit_linked(words: &[u32], firsts: &[u32], marks: &[u8], n: u32, root: AllocIndex, live: u32, filled: bool, sheet: Rectangle) -> Verdict
+    requires { ⌜ Prepared (now words) (now firsts) (now marks) n live × Walked (now words) (now firsts) n (root .0) sheet filled ⌝ }
+    ensures { λ r. ⌜ Judged (now (words .entry)) (now (firsts .entry)) (now (marks .entry)) n (root .0) sheet (r .rule) (r .place) ⌝ }
+{
+    let apart = lowest(Test::Merged, words, firsts, marks, n, root);
+    if apart < n {
+        return broken(4, apart, n);
+    }
+    if !filled {
+        return broken(5, lowest(Test::Filled, words, firsts, marks, n, root), n);
+    }
+    let unlisted = lowest(Test::Listed, words, firsts, marks, n, root);
+    if unlisted < n {
+        return broken(6, unlisted, n);
+    }
+    let last = lowest(Test::NotLast, words, firsts, marks, n, root);
+    if last_holds(words, firsts, n, live, AllocIndex(last)) {
+        return Verdict {
+            rule: 0,
+            place: 0,
+        };
+    }
+    broken(7, last, n)
+}
+
+// Rules 3 to 7, with the table of first children and the marks made.
+fn audit_marked(words: &[u32], firsts: &[u32], marks: &[u8], n: u32, root: AllocIndex, live: u32, sheet: Rectangle) -> Verdict
+    requires { ⌜ Prepared (now words) (now firsts) (now marks) n live ⌝ }
+    ensures { λ r. ⌜ Judged (now (words .entry)) (now (firsts .entry)) (now (marks .entry)) n (root .0) sheet (r .rule) (r .place) ⌝ }
+{
+    let astray = lowest(Test::Links, words, firsts, marks, n, root);
+    if astray < n {
+        return broken(3, astray, n);
+    }
+    if !links::is_live(words, n, root) {
+        return broken(3, astray, n);
+    }
+    let p = places::place_of_chain(words, firsts, root, live);
+    if !is_whole(p) {
+        return broken(3, astray, n);
+    }
+    let filled = is_filled(p, sheet);
+    audit_linked(words, firsts, marks, n, root, live, filled, sheet)
+}
+
+// Rules 3 to 7. Makes the table of first children and the marks.
+fn audit_tree(words: &[u32], small: &[u32], medium: &[u32], large: &[u32], head: Head, live: u32) -> Verdict
+    requires { ⌜ TreeReady (now words) (lists (head .lengths) (now small) (now medium) (now large)) (head .count) live ⌝ }
+    ensures { λ r. ⌜ Judged (now (words .entry)) (firstsOf (now (words .entry)) (head .count))
+        (marksOf (now (words .entry)) (setupOf (head .sheet) (head .options)) (lists (head .lengths) (now (small .entry)) (now (medium .entry)) (now (large .entry))))
+        (head .count) (head .root .0) (sheetOf (head .sheet)) (r .rule) (r .place) ⌝ }
+{
+    let n = head.count;
+    let lengths = head.lengths;
+    let setup = geometry::setup_of(head.sheet, head.options);
+    let sheet = Rectangle {
+        x0: 0,
+        y0: 0,
+        x1: setup.sheet.width,
+        y1: setup.sheet.height,
+    };
+    let mut firsts = [4294967295u32; 4096];
+    let mut marks = [0u8; 4096];
+    links::enter_firsts(words, &mut firsts, n);
+    mark_list(words, &mut marks, setup.small, setup.large, Bucket::Small, small, lengths.small, n);
+    mark_list(words, &mut marks, setup.small, setup.large, Bucket::Medium, medium, lengths.medium, n);
+    mark_list(words, &mut marks, setup.small, setup.large, Bucket::Large, large, lengths.large, n);
+    let top = n as usize;
+    audit_marked(words, &firsts[..top], &marks, n, head.root, live, sheet)
+}
+
+// Rule 1 without its last words: count, setup, list lengths and root are in order.
+fn numbers_hold(total: usize, small: usize, medium: usize, large: usize, head: Head) -> bool
+    ensures { λ r. ⌜ r ≡ numbersHold total small medium large head ⌝ }
+{
+    let n = head.count;
+    let lengths = head.lengths;
+    if n == 0 {
+        return false;
+    }
+    if n as usize > total {
+        return false;
+    }
+    if lengths.small > small {
+        return false;
+    }
+    if lengths.medium > medium {
+        return false;
+    }
+    if lengths.large > large {
+        return false;
+    }
+    let sheet = head.sheet;
+    let options = head.options;
+    if !geometry::is_valid(sheet, options) {
+        return false;
+    }
+    let root = head.root;
+    root.0 < n
+}
+
+// Rule 1 broken at the lowest entry of a list that isn't below n, or another verdict where there is none.
+fn entry_found(list: &[u32], len: usize, n: u32, other: Verdict) -> Verdict
+    requires { ⌜ (len ≤ length (now list)) × (len ≤ 16384) ⌝ }
+    ensures { λ r. ⌜ r ≡ entryFound (bag (now (list .entry)) len) n other ⌝ }
+{
+    let k = lowest_entry(list, len, n);
+    if k < len {
+        return Verdict {
+            rule: 1,
+            place: k as u32,
+        };
+    }
+    other
+}
+
+// The last words of rule 1: every list entry is below n.
+fn entries_found(small: &[u32], medium: &[u32], large: &[u32], lengths: Lengths, n: u32) -> Verdict
+    requires { ⌜ EntriesReady (lists lengths (now small) (now medium) (now large)) ⌝ }
+    ensures { λ r. ⌜ r ≡ entriesFound (lists lengths (now (small .entry)) (now (medium .entry)) (now (large .entry))) n ⌝ }
+{
+    let none = Verdict {
+        rule: 0,
+        place: 0,
+    };
+    let c = entry_found(large, lengths.large, n, none);
+    let b = entry_found(medium, lengths.medium, n, c);
+    entry_found(small, lengths.small, n, b)
+}
+
+// The audit: the lowest-numbered rule of soundness that is broken, and the lowest place that breaks it. It changes nothing.
+pub fn audit(words: &[u32], generations: &[u8], small: &[u32], medium: &[u32], large: &[u32], head: Head) -> Verdict
+    requires { ⌜ Lent (length (now words)) (length (now generations)) (length (now small)) (length (now medium)) (length (now large)) ⌝ }
+    ensures { λ r. ⌜ Audited (state head (now (words .entry)) (now (generations .entry)) (now (small .entry)) (now (medium .entry)) (now (large .entry)))
+        (r .rule) (r .place) ⌝ }
+{
+    if !numbers_hold(generations.len(), small.len(), medium.len(), large.len(), head) {
+        return Verdict {
+            rule: 1,
+            place: 0,
+        };
+    }
+    let n = head.count;
+    let lengths = head.lengths;
+    let found = entries_found(small, medium, large, lengths, n);
+    if found.rule != 0 {
+        return found;
+    }
+    let unused = steps::unused_below(words, n);
+    let spare = head.spare;
+    if !links::spare_walk(words, n, spare, unused) {
+        return Verdict {
+            rule: 2,
+            place: 0,
+        };
+    }
+    audit_tree(words, small, medium, large, head, n - unused)
+}
+
+// The check of the tables, whatever they hold. 1: a table length is out of range; 2: the tables are not sound; 0: they are.
+pub fn check(words: &[u32], generations: &[u8], small: &[u32], medium: &[u32], large: &[u32], head: Head) -> u32
+    ensures { λ r. ⌜ Checked (state head (now (words .entry)) (now (generations .entry)) (now (small .entry)) (now (medium .entry)) (now (large .entry))) r ⌝ }
+{
+    if !starts::is_lent(words.len(), generations.len(), small.len(), medium.len(), large.len()) {
+        return 1;
+    }
+    let found = audit(words, generations, small, medium, large, head);
+    if found.rule != 0 {
+        return 2;
+    }
+    0
 }
