@@ -5,3 +5,4 @@ pub mod Judged
 pub mod FirstLaws
 pub mod MarkLaws
 pub mod JudgeLaws
+pub mod TreeLaws
