@@ -2,33 +2,28 @@
 -- Assumes nothing.
 use mathlib.Core.Path.{_≡_, refl, ap, sym, subst, _∙_}
 use mathlib.Core.Bool.{Bool, true, false, true≢false}
-use mathlib.Core.Logic.{_↔_, _⊎_, inl, inr, ⊎-elim}
+use mathlib.Core.Logic.{_⊎_, inl, inr, ⊎-elim}
 use mathlib.Core.List.{List}
-use Prim.Native.Nat.{ℕ, zero, suc, _+_, _-_, _*_, _≤_, _<_}
+use Prim.Native.Nat.{ℕ, zero, suc, _+_, _-_, _≤_, _<_}
 use native.Mathlib.Omega.{arith}
-use lib.ListN.{length}
 use lib.Dec.{ltb}
 use Rattle.geometry.specs.Choice.{pick}
 use Rattle.geometry.specs.Sides.{setupOf}
 use Rattle.geometry.specs.declared.Bucket.{Bucket}
 use Rattle.geometry.specs.declared.Bucket.the-variants.{Small, Medium, Large}
-use Rattle.slots.specs.declared.AllocIndex.{AllocIndex}
 use Rattle.lists.specs.Lists.{Each}
-use Rattle.lists.specs.FreeLists.{Lists, listOf}
+use Rattle.lists.specs.FreeLists.{listOf}
 use Rattle.steps.specs.Spares.{unusedBelow}
 use Rattle.steps.specs.State.{State, listsOf}
-use Rattle.sound.specs.View.{seen, linkOf}
-use Rattle.sound.specs.Sound.{Counted, Sound, Listed, sheetOf}
-use Rattle.links.specs.Links.{Table, spareWalk}
+use Rattle.sound.specs.Sound.{Counted, Listed, sheetOf}
+use Rattle.links.specs.Links.{spareWalk}
 use Rattle.links.specs.SpareLaws.{spare-walk-yes, spare-walk-no}
-use Rattle.starts.specs.Lent.{lent}
-use Rattle.starts.specs.LentLaws.{lent-yes, yes-lent}
 use Rattle.starts.specs.StartWhen.{LentOf}
 use Rattle.audit.specs.Tests.{firstFrom, listedAt}
 use Rattle.audit.specs.Audited as audited
-use Rattle.audit.specs.Audited.{Rule2, lowestBad, numbersOf, entriesFound, entryPlace, firstsOf, hasEntry, Audited, Checked}
+use Rattle.audit.specs.Audited.{Rule2, lowestBad, numbersOf, entriesFound, firstsOf, hasEntry, Audited}
 use Rattle.audit.specs.Judged as judged
-use Rattle.audit.specs.Judged.{marksOf, AllMarked, EntriesReady, TreeReady, Judged}
+use Rattle.audit.specs.Judged.{marksOf, AllMarked, TreeReady, Judged}
 use Rattle.audit.specs.MarkLaws.{marks-say-entries, entries-say-listed}
 use Rattle.audit.specs.CountLaws.{entries-cases, counted-numbers, numbers-counted, numbers-table}
 use Rattle.audit.specs.declared.Verdict.{Verdict}

@@ -3,14 +3,14 @@
 use mathlib.Core.Path.{_≡_, refl, ap, sym, _∙_}
 use mathlib.Core.Bool.{Bool, true, false, _&&_, _||_, not, false≢true}
 use mathlib.Core.List.{List}
-use mathlib.Core.Logic.{_↔_, _⊎_, inl, inr, ⊎-elim}
-use Prim.Native.Nat.{ℕ, zero, suc, _+_, _-_, _<_, _≤_}
+use mathlib.Core.Logic.{_↔_}
+use Prim.Native.Nat.{ℕ, zero, suc, _+_, _<_, _≤_}
 use native.Mathlib.Numerals.{add-one}
 use native.Mathlib.Omega.{arith}
 use lib.ListN.{length, getD, set, length-set, replicate, length-replicate, getD-replicate}
 use lib.Seq.{getD-set-same, getD-set-other}
 use lib.Dec.{eqb}
-use borrow.Author.Tests.{eqb-true, eq-eqb, eqb-false}
+use borrow.Author.Tests.{eqb-true, eqb-false}
 use Rattle.geometry.specs.Choice.{pick, pick-elim}
 use Rattle.geometry.specs.Buckets.{bucketOf}
 use Rattle.geometry.specs.Cuts.{widthOf, heightOf}
@@ -20,7 +20,7 @@ use Rattle.geometry.specs.declared.Bucket.the-variants.{Small, Medium, Large}
 use Rattle.geometry.specs.declared.Setup.{Setup}
 use Rattle.slots.specs.Slots.{slot, nodeAt}
 use Rattle.slots.specs.declared.NodeKind.the-variants.{Free}
-use Rattle.lists.specs.Lists.{Bag, occurs, freeEntry}
+use Rattle.lists.specs.Lists.{occurs, freeEntry}
 use Rattle.lists.specs.FreeLists.{Lists, listOf}
 use Rattle.steps.specs.State.{State, listsOf}
 use Rattle.sound.specs.View.{seen}
@@ -89,9 +89,10 @@ occurs-says t x (suc k) = go (eqb (getD t k 0) x) refl (occurs-says t x k)
   where
     go : (e : Bool) → eqb (getD t k 0) x ≡ e → Says (occurs t x k) ((j : ℕ) × (j < k) × (getD t j 0 ≡ x)) → Says (e || occurs t x k) ((j : ℕ) × (j < suc k) × (getD t j 0 ≡ x))
     go true q r = (λ _. (k, omega arith, eqb-true (getD t k 0) x q), λ _. refl)
-    go false q r =
-        (λ e. let p = r .0 e in (p .0, omega (arith, p .1), p .2),
-         λ p. r .1 (p .0, less (p .0) (p .1) (λ e. eqb-false (getD t k 0) x q (ap (λ j. getD t j 0) (sym e) ∙ p .2)), p .2))
+    go false q r = (
+      λ e. let p = r .0 e in (p .0, omega (arith, p .1), p .2),
+      λ p. r .1 (p .0, less (p .0) (p .1) (λ e. eqb-false (getD t k 0) x q (ap (λ j. getD t j 0) (sym e) ∙ p .2)), p .2),
+    )
       where
         less : (j : ℕ) → j < suc k → (j ≡ k → ⊥) → j < k
         less j a b = omega arith
@@ -99,9 +100,9 @@ occurs-says t x (suc k) = go (eqb (getD t k 0) x) refl (occurs-says t x k)
 -- A Free slot is marked by its own bucket's list, and by no other.
 own-mark : (w : List ℕ) (u : Setup) (l : Lists) (start : List ℕ) (x : ℕ) → x < length start → getD start x 0 ≡ 0 → freeEntry w x ≡ true
     → isMarked
-        (marksTo w (u .small) (u .large) Large (l .large .table) (l .large .len)
-        (marksTo w (u .small) (u .large) Medium (l .medium .table) (l .medium .len) (marksTo w (u .small) (u .large) Small (l .small .table) (l .small .len) start)))
-        x
+    (marksTo w (u .small) (u .large) Large (l .large .table) (l .large .len)
+    (marksTo w (u .small) (u .large) Medium (l .medium .table) (l .medium .len) (marksTo w (u .small) (u .large) Small (l .small .table) (l .small .len) start)))
+    x
     ≡ (let b = listOf (bucketOf (u .small) (u .large) (widthOf (nodeAt w (slot x) .rect)) (heightOf (nodeAt w (slot x) .rect))) l in occurs (b .table) x (b .len))
 own-mark w u l start x h z f =
     let one = marksTo w (u .small) (u .large) Small (l .small .table) (l .small .len) start in

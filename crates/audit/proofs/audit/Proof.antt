@@ -1,5 +1,4 @@
 use Rattle.steps.specs.State.{state}
-use native.Mathlib.Omega.{arith}
 use mathlib.Core.Path.{sym, _∙_}
 use borrow.Author.Tests.{not-true, not-false}
 use Rattle.audit.specs.CountLaws.{numbers-ready, numbers-table}
