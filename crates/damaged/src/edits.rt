@@ -13,6 +13,10 @@ pub struct Kept {
     pub head: Head,
 }
 
+fn size(number: u32) -> usize {
+    number as usize
+}
+
 fn zero_size() -> Size {
     Size {
         width: 0,
@@ -40,17 +44,17 @@ fn zero_head() -> Head {
 }
 
 // Tables of so many slots and entries, with a head of zeros.
-pub fn kept(slots: usize, entries: usize) -> Kept {
+pub fn begun(slots: u32, entries: u32) -> Kept {
     Kept {
-        slots: slots,
-        entries: entries,
+        slots: size(slots),
+        entries: size(entries),
         head: zero_head(),
     }
 }
 
 // 31 place value
 pub fn word(line: &[u32; 128], words: &mut [u32; 512], slots: usize) -> bool {
-    let at = line[1] as usize;
+    let at = size(line[1]);
     if at >= 512 {
         return false;
     }
@@ -63,7 +67,7 @@ pub fn word(line: &[u32; 128], words: &mut [u32; 512], slots: usize) -> bool {
 
 // 32 place value
 pub fn generation(line: &[u32; 128], generations: &mut [u8; 64], slots: usize) -> bool {
-    let at = line[1] as usize;
+    let at = size(line[1]);
     let value = line[2];
     if at >= 64 {
         return false;
@@ -98,7 +102,7 @@ pub fn entry(
     large: &mut [u32; 128],
     entries: usize,
 ) -> bool {
-    let at = line[2] as usize;
+    let at = size(line[2]);
     let value = line[3];
     match line[1] {
         0 => put_entry(small, entries, at, value),
@@ -173,6 +177,7 @@ pub fn with_field(head: Head, field: u32, bits: u32) -> Head {
     let sheet = head.sheet;
     let options = head.options;
     let lengths = head.lengths;
+    let link = AllocIndex(bits);
     let mut after = head;
     match field {
         0 | 1 => {
@@ -182,16 +187,16 @@ pub fn with_field(head: Head, field: u32, bits: u32) -> Head {
             after.options = with_option(options, field, reading::signed(bits));
         }
         6 => {
-            after.root = AllocIndex(bits);
+            after.root = link;
         }
         7 => {
-            after.spare = AllocIndex(bits);
+            after.spare = link;
         }
         8 => {
             after.count = bits;
         }
         _ => {
-            after.lengths = with_length(lengths, field, bits as usize);
+            after.lengths = with_length(lengths, field, size(bits));
         }
     }
     after

@@ -9,9 +9,11 @@ mod tally;
 use edits::Kept;
 use reading::Line;
 use reading::Reading;
+use steps::Head;
 use tally::Found;
 use tally::Tally;
-ghost use Prim.Native.Nat.{_≤_};
+ghost use Prim.Native.Nat.{_*_, _≤_};
+ghost use lib.ListN.{length};
 
 // What is kept from line to line, beside the tables and the counts of each rule.
 struct Run {
@@ -49,7 +51,7 @@ fn begin(
     *small = [0; 128];
     *medium = [0; 128];
     *large = [0; 128];
-    edits::kept(line[1] as usize, line[2] as usize)
+    edits::begun(line[1], line[2])
 }
 
 // 31 to 33
@@ -95,29 +97,25 @@ enum Checked {
     OutOfRange,
 }
 
-fn checked(
-    words: &[u32; 512],
-    generations: &[u8; 64],
-    small: &[u32; 128],
-    medium: &[u32; 128],
-    large: &[u32; 128],
-    kept: Kept,
+fn check_lent(
+    words: &[u32],
+    generations: &[u8],
+    small: &[u32],
+    medium: &[u32],
+    large: &[u32],
+    head: Head,
 ) -> Checked {
-    let n = kept.slots;
-    let l = kept.entries;
-    let head = kept.head;
-    if n > 64 {
+    if !starts::is_lent(
+        words.len(),
+        generations.len(),
+        small.len(),
+        medium.len(),
+        large.len(),
+    ) {
         return Checked::OutOfRange;
     }
-    if l > 128 {
-        return Checked::OutOfRange;
-    }
-    let w = n * 8;
-    if !starts::is_lent(w, n, l, l, l) {
-        return Checked::OutOfRange;
-    }
-    let audit = audit::audit(&words[..w], &generations[..n], &small[..l], &medium[..l], &large[..l], head);
-    let answer = audit::check(&words[..w], &generations[..n], &small[..l], &medium[..l], &large[..l], head);
+    let audit = audit::audit(words, generations, small, medium, large, head);
+    let answer = audit::check(words, generations, small, medium, large, head);
     Checked::Gave(Found {
         rule: audit.rule,
         place: audit.place,
@@ -125,10 +123,73 @@ fn checked(
     })
 }
 
+// Checks the first slots and the first entries of the tables.
+fn check_first(
+    words: &[u32],
+    generations: &[u8],
+    small: &[u32],
+    medium: &[u32],
+    large: &[u32],
+    slots: usize,
+    entries: usize,
+    head: Head,
+) -> Checked
+    requires { ⌜ slots * 8 ≤ length (now words) ⌝ }
+    requires { ⌜ slots ≤ length (now generations) ⌝ }
+    requires { ⌜ entries ≤ length (now small) ⌝ }
+    requires { ⌜ entries ≤ length (now medium) ⌝ }
+    requires { ⌜ entries ≤ length (now large) ⌝ }
+{
+    let ends = slots * 8;
+    check_lent(
+        &words[..ends],
+        &generations[..slots],
+        &small[..entries],
+        &medium[..entries],
+        &large[..entries],
+        head,
+    )
+}
+
+// Checks the part of the tables that is kept.
+fn check_kept(
+    words: &[u32; 512],
+    generations: &[u8; 64],
+    small: &[u32; 128],
+    medium: &[u32; 128],
+    large: &[u32; 128],
+    kept: Kept,
+) -> Checked {
+    let slots = kept.slots;
+    let entries = kept.entries;
+    let head = kept.head;
+    if slots > 64 {
+        return Checked::OutOfRange;
+    }
+    if entries > 128 {
+        return Checked::OutOfRange;
+    }
+    check_first(
+        words,
+        generations,
+        small,
+        medium,
+        large,
+        slots,
+        entries,
+        head,
+    )
+}
+
 // 35 rule place
 fn take_verdict(line: &[u32; 128], rules: &mut [u64; 8], tally: Tally, checked: Checked) -> Tally {
     match checked {
-        Checked::Gave(found) => tally::with_verdict(rules, tally, tally::expected(line[1], line[2]), found),
+        Checked::Gave(found) => tally::with_verdict(
+            rules,
+            tally,
+            tally::expected(line[1], line[2]),
+            found,
+        ),
         Checked::OutOfRange => tally::with_fault(tally),
     }
 }
@@ -153,10 +214,10 @@ fn take_line(
         },
         34 => set_field(line, run),
         35 => {
-            let gave = checked(words, generations, small, medium, large, kept);
+            let checked = check_kept(words, generations, small, medium, large, kept);
             Run {
                 kept: kept,
-                tally: take_verdict(line, rules, tally, gave),
+                tally: take_verdict(line, rules, tally, checked),
             }
         }
         _ => {
@@ -220,7 +281,17 @@ fn take_next(
     let after = reading::next_line(line, buffer, before);
     let read = after.line;
     Pass {
-        run: count_line(line, read, words, generations, small, medium, large, rules, run),
+        run: count_line(
+            line,
+            read,
+            words,
+            generations,
+            small,
+            medium,
+            large,
+            rules,
+            run,
+        ),
         reading: after,
     }
 }
@@ -236,14 +307,24 @@ fn read_all(rules: &mut [u64; 8]) -> Tally {
     let mut large = [0u32; 128];
     let mut pass = Pass {
         run: Run {
-            kept: edits::kept(0, 0),
+            kept: edits::begun(0, 0),
             tally: tally::none_yet(),
         },
         reading: reading::unread(),
     };
     let mut turns = u64::MAX;
     while turns > 0 && !pass.reading.ended {
-        pass = take_next(&mut line, &mut buffer, &mut words, &mut generations, &mut small, &mut medium, &mut large, rules, pass);
+        pass = take_next(
+            &mut line,
+            &mut buffer,
+            &mut words,
+            &mut generations,
+            &mut small,
+            &mut medium,
+            &mut large,
+            rules,
+            pass,
+        );
         turns -= 1;
     }
     let run = pass.run;

@@ -3,14 +3,17 @@ use crate::tally::Found;
 use crate::tally::Tally;
 use reading::say;
 
-// How many verdicts agree, by the rule that the list names.
+fn say_rule(rule: u64, number: u64) {
+    io::write_all(1, b"rule ");
+    io::print_decimal(1, rule);
+    say(b" agree ", number);
+}
+
+// How many verdicts agree, by the broken rule that the list names.
 fn report_rules(rules: &[u64; 8]) {
-    say(b"sound agree ", rules[0]);
     let mut rule = 1;
     while rule < 8 {
-        io::write_all(1, b"rule ");
-        io::print_decimal(1, rule as u64);
-        say(b" agree ", rules[rule]);
+        say_rule(rule as u64, rules[rule]);
         rule += 1;
     }
 }
@@ -39,6 +42,7 @@ fn report_firsts(tally: Tally) {
 pub fn report(rules: &[u64; 8], tally: Tally) {
     say(b"lines ", tally.lines);
     say(b"verdicts ", tally.verdicts);
+    say(b"sound agree ", rules[0]);
     report_rules(rules);
     say(b"mismatches ", tally.mismatches);
     say(b"faults ", tally.faults);

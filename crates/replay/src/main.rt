@@ -83,7 +83,12 @@ struct Pass {
     reading: Reading,
 }
 
-fn take_next(numbers: &mut [u32; 128], buffer: &mut [u8; 65536], counts: &mut [u64; 32], pass: Pass) -> Pass
+fn take_next(
+    numbers: &mut [u32; 128],
+    buffer: &mut [u8; 65536],
+    counts: &mut [u64; 32],
+    pass: Pass,
+) -> Pass
     requires { ⌜ pass .reading .end ≤ 65536 ⌝ }
     ensures { λ r. ⌜ r .reading .end ≤ 65536 ⌝ }
 {
