@@ -6,19 +6,17 @@ use mathlib.Core.List.{List}
 use mathlib.Core.Logic.{_⊎_, inl, inr}
 use Prim.Native.Nat.{ℕ, _-_, _≤_, _<_}
 use native.Mathlib.Omega.{arith}
-use lib.ListN.{length, getD}
-use lib.Dec.{eqb, ltb}
+use lib.ListN.{length}
 use borrow.Author.Tests.{not-true}
-use Rattle.geometry.specs.Choice.{pick}
 use Rattle.geometry.specs.TestLaws.{same-or-not}
 use Rattle.geometry.specs.declared.Rectangle.{Rectangle}
 use Rattle.slots.specs.Slots.{slot, isNone, sameKind, nodeAt}
 use Rattle.slots.specs.declared.Node.{Node}
 use Rattle.slots.specs.declared.NodeKind.the-variants.{Container}
 use Rattle.steps.specs.Spares.{unusedBelow}
-use Rattle.sound.specs.View.{none, to, seen, Live}
-use Rattle.sound.specs.Rules.{FirstChild, PlaceSlot, PlaceChain}
-use Rattle.sound.specs.Sound.{Linked, Merged, LastTrue}
+use Rattle.sound.specs.View.{seen, Live}
+use Rattle.sound.specs.Rules.{PlaceSlot, PlaceChain}
+use Rattle.sound.specs.Sound.{Linked, Merged}
 use Rattle.forest.specs.Follows.{Local}
 use Rattle.places.specs.Places.{Ready, Chained, Slotted}
 use Rattle.places.specs.RuleLaws.{liveSlots, FirstsRight, walk-linked, linked-walk, walk-placed, placed-walk, slot-walk-placed, placed-slot-walk}
@@ -48,9 +46,10 @@ rect-from r s a b c d =
 pub same-rect-says : (r s : Rectangle) → Says (sameRect r s) (r ≡ s)
 unfolding sameRect
 same-rect-says r s =
-    says-as (both-say (equal-says (r .x0) (s .x0)) (both-say (equal-says (r .y0) (s .y0)) (both-say (equal-says (r .x1) (s .x1)) (equal-says (r .y1) (s .y1)))))
-    (λ e. rect-from r s (e .0) (e .1 .0) (e .1 .1 .0) (e .1 .1 .1),
-     λ e. (ap (λ (q : Rectangle). q .x0) e, (ap (λ (q : Rectangle). q .y0) e, (ap (λ (q : Rectangle). q .x1) e, ap (λ (q : Rectangle). q .y1) e))))
+    says-as (both-say (equal-says (r .x0) (s .x0)) (both-say (equal-says (r .y0) (s .y0)) (both-say (equal-says (r .x1) (s .x1)) (equal-says (r .y1) (s .y1))))) (
+      λ e. rect-from r s (e .0) (e .1 .0) (e .1 .1 .0) (e .1 .1 .1),
+      λ e. (ap (λ (q : Rectangle). q .x0) e, (ap (λ (q : Rectangle). q .y0) e, (ap (λ (q : Rectangle). q .x1) e, ap (λ (q : Rectangle). q .y1) e))),
+    )
 
 -- A walk that fits together and fills r.
 filled-says : (p : Placed) (r : Rectangle) → Says (isFilled p r) ((p .fits ≡ true) × (p .at ≡ r))
@@ -104,9 +103,10 @@ module _ (w fs : List ℕ) (root : ℕ) (t : Table w (length fs)) (f : Firsts w 
     slot-is : Linked (seen w) (length fs) root → (i : ℕ) → LastTop (seen w) (length fs) i → (p : Placed) → Slotted w fs i live p → (r : Rectangle)
         → Says (isFilled p r) (PlaceSlot (seen w) (length fs) i r)
     slot-is K i l p s r =
-        says-as (filled-says p r)
-        (λ h. rw (← h .1) (slot-walk-placed w fs root L right K (l .live) (l .next) (omega (arith, alive live e)) s (h .0)),
-         placed-slot-walk w fs root L right K (l .live) (l .next) (omega (arith, alive live e)) s r)
+        says-as (filled-says p r) (
+          λ h. rw (← h .1) (slot-walk-placed w fs root L right K (l .live) (l .next) (omega (arith, alive live e)) s (h .0)),
+          placed-slot-walk w fs root L right K (l .live) (l .next) (omega (arith, alive live e)) s r,
+        )
 
 -- The same of n.
 module _ (w fs : List ℕ) (n root live : ℕ) (t : Table w n) (f : Firsts w fs n) (front : length fs ≡ n) (count : live ≡ n - unusedBelow w n)

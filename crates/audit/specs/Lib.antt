@@ -6,3 +6,6 @@ pub mod FirstLaws
 pub mod MarkLaws
 pub mod JudgeLaws
 pub mod TreeLaws
+pub mod CountLaws
+pub mod AuditLaws
+pub mod Exact

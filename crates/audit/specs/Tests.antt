@@ -1,6 +1,6 @@
 -- The tests that the check makes of each slot and each list entry.
 -- Assumes nothing.
-use mathlib.Core.Bool.{Bool, true, false, _&&_, _||_, not}
+use mathlib.Core.Bool.{Bool, true, _&&_, _||_, not}
 use mathlib.Core.List.{List}
 use Prim.Native.Nat.{ℕ, zero, suc, _+_}
 use lib.ListN.{getD, set}
@@ -10,7 +10,7 @@ use Rattle.geometry.specs.Buckets.{bucketOf, rank}
 use Rattle.geometry.specs.Cuts.{emptyRect, widthOf, heightOf}
 use Rattle.geometry.specs.declared.Bucket.{Bucket}
 use Rattle.geometry.specs.declared.Rectangle.{Rectangle}
-use Rattle.slots.specs.Slots.{slot, isNone, sameKind, nodeAt}
+use Rattle.slots.specs.Slots.{slot, isNone, nodeAt}
 use Rattle.slots.specs.declared.NodeKind.{NodeKind}
 use Rattle.slots.specs.declared.NodeKind.the-variants.{Container, Alloc, Free, Unused}
 use Rattle.lists.specs.Lists.{freeEntry}

@@ -1,9 +1,8 @@
 -- The laws by which the tables that the check makes are handed on: the first children and the marks.
 -- Assumes nothing.
-use mathlib.Core.Path.{_≡_, refl, ap, sym, _∙_}
+use mathlib.Core.Path.{_≡_}
 use mathlib.Core.List.{List}
-use Prim.Native.Nat.{ℕ, _-_, _≤_, _<_}
-use native.Mathlib.Omega.{arith}
+use Prim.Native.Nat.{ℕ, _≤_}
 use lib.ListN.{length, take, replicate}
 use lib.Seq.{length-take-le}
 use Rattle.geometry.specs.Sides.{setupOf}
@@ -12,7 +11,6 @@ use Rattle.geometry.specs.declared.Bucket.the-variants.{Small, Medium, Large}
 use Rattle.geometry.specs.declared.Setup.{Setup}
 use Rattle.geometry.specs.declared.Size.{Size}
 use Rattle.lists.specs.FreeLists.{Lists}
-use Rattle.steps.specs.Spares.{unusedBelow}
 use Rattle.sound.specs.Sound.{sheetOf}
 use Rattle.links.specs.Links.{firstsTo}
 use Rattle.links.specs.FirstLaws.{Firsts, firsts-of-none-links, firsts-front}

@@ -1,7 +1,6 @@
 // The check of the tables: the lowest-numbered rule of soundness that is broken, and where.
 use geometry::Bucket;
 use geometry::Rectangle;
-use geometry::Setup;
 use lists::Lengths;
 use places::Placed;
 use slots::AllocIndex;
@@ -140,7 +139,15 @@ fn not_last_at(words: &[u32], n: u32, i: AllocIndex) -> bool
 }
 
 // One test of one slot.
-fn holds_at(test: Test, words: &[u32], firsts: &[u32], marks: &[u8], n: u32, root: AllocIndex, i: AllocIndex) -> bool
+fn holds_at(
+    test: Test,
+    words: &[u32],
+    firsts: &[u32],
+    marks: &[u8],
+    n: u32,
+    root: AllocIndex,
+    i: AllocIndex,
+) -> bool
     requires { ⌜ Table (now words) n × (n ≤ length (now firsts)) × (n ≤ length (now marks)) × (i .0 < n) ⌝ }
     ensures { λ r. ⌜ r ≡ holdsAt test (now (words .entry)) (now (firsts .entry)) (now (marks .entry)) n (root .0) (i .0) ⌝ }
 {
@@ -194,7 +201,12 @@ fn mark_entry(words: &[u32], marks: &mut [u8], small: u32, large: u32, bucket: B
     if !slots::same_kind(kind, NodeKind::Free) {
         return;
     }
-    let own = geometry::free_list_for_size(small, large, side(rect.x0, rect.x1), side(rect.y0, rect.y1));
+    let own = geometry::free_list_for_size(
+        small,
+        large,
+        side(rect.x0, rect.x1),
+        side(rect.y0, rect.y1),
+    );
     if bucket_rank(own) == bucket_rank(bucket) {
         let at = x as usize;
         marks[at] = 1;
@@ -202,7 +214,16 @@ fn mark_entry(words: &[u32], marks: &mut [u8], small: u32, large: u32, bucket: B
 }
 
 // Marks every Free slot that has an entry in this list, if it is its own bucket's.
-fn mark_list(words: &[u32], marks: &mut [u8], small: u32, large: u32, bucket: Bucket, list: &[u32], len: usize, n: u32)
+fn mark_list(
+    words: &[u32],
+    marks: &mut [u8],
+    small: u32,
+    large: u32,
+    bucket: Bucket,
+    list: &[u32],
+    len: usize,
+    n: u32,
+)
     requires { ⌜ Table (now words) n × (n ≤ length (now marks)) × (len ≤ length (now list)) × Each (λ x. x < n) (bag (now list) len) ⌝ }
     ensures { λ _. ⌜ now (marks .exit) ≡ marksTo (now (words .entry)) small large bucket (now (list .entry)) len (now (marks .entry)) ⌝ }
 {
@@ -245,12 +266,21 @@ fn last_holds(words: &[u32], firsts: &[u32], n: u32, live: u32, i: AllocIndex) -
         return true;
     }
     let p = places::place_of_slot(words, firsts, i, live);
-    let rect = node.rect;
-    is_filled(p, rect)
+    let stored = node.rect;
+    is_filled(p, stored)
 }
 
 // Rules 4 to 7, where rule 3 holds and it is known whether the top chain fills the sheet.
-fn audit_linked(words: &[u32], firsts: &[u32], marks: &[u8], n: u32, root: AllocIndex, live: u32, filled: bool, sheet: Rectangle) -> Verdict
+fn audit_linked(
+    words: &[u32],
+    firsts: &[u32],
+    marks: &[u8],
+    n: u32,
+    root: AllocIndex,
+    live: u32,
+    filled: bool,
+    sheet: Rectangle,
+) -> Verdict
     requires { ⌜ Prepared (now words) (now firsts) (now marks) n live × Walked (now words) (now firsts) n (root .0) sheet filled ⌝ }
     ensures { λ r. ⌜ Judged (now (words .entry)) (now (firsts .entry)) (now (marks .entry)) n (root .0) sheet (r .rule) (r .place) ⌝ }
 {
@@ -267,16 +297,21 @@ fn audit_linked(words: &[u32], firsts: &[u32], marks: &[u8], n: u32, root: Alloc
     }
     let last = lowest(Test::NotLast, words, firsts, marks, n, root);
     if last_holds(words, firsts, n, live, AllocIndex(last)) {
-        return Verdict {
-            rule: 0,
-            place: 0,
-        };
+        return Verdict { rule: 0, place: 0 };
     }
     broken(7, last, n)
 }
 
 // Rules 3 to 7, with the table of first children and the marks made.
-fn audit_marked(words: &[u32], firsts: &[u32], marks: &[u8], n: u32, root: AllocIndex, live: u32, sheet: Rectangle) -> Verdict
+fn audit_marked(
+    words: &[u32],
+    firsts: &[u32],
+    marks: &[u8],
+    n: u32,
+    root: AllocIndex,
+    live: u32,
+    sheet: Rectangle,
+) -> Verdict
     requires { ⌜ Prepared (now words) (now firsts) (now marks) n live ⌝ }
     ensures { λ r. ⌜ Judged (now (words .entry)) (now (firsts .entry)) (now (marks .entry)) n (root .0) sheet (r .rule) (r .place) ⌝ }
 {
@@ -296,7 +331,14 @@ fn audit_marked(words: &[u32], firsts: &[u32], marks: &[u8], n: u32, root: Alloc
 }
 
 // Rules 3 to 7. Makes the table of first children and the marks.
-fn audit_tree(words: &[u32], small: &[u32], medium: &[u32], large: &[u32], head: Head, live: u32) -> Verdict
+fn audit_tree(
+    words: &[u32],
+    small: &[u32],
+    medium: &[u32],
+    large: &[u32],
+    head: Head,
+    live: u32,
+) -> Verdict
     requires { ⌜ TreeReady (now words) (lists (head .lengths) (now small) (now medium) (now large)) (head .count) live ⌝ }
     ensures { λ r. ⌜ Judged (now (words .entry)) (firstsOf (now (words .entry)) (head .count))
         (marksOf (now (words .entry)) (setupOf (head .sheet) (head .options)) (lists (head .lengths) (now (small .entry)) (now (medium .entry)) (now (large .entry))))
@@ -314,9 +356,36 @@ fn audit_tree(words: &[u32], small: &[u32], medium: &[u32], large: &[u32], head:
     let mut firsts = [4294967295u32; 4096];
     let mut marks = [0u8; 4096];
     links::enter_firsts(words, &mut firsts, n);
-    mark_list(words, &mut marks, setup.small, setup.large, Bucket::Small, small, lengths.small, n);
-    mark_list(words, &mut marks, setup.small, setup.large, Bucket::Medium, medium, lengths.medium, n);
-    mark_list(words, &mut marks, setup.small, setup.large, Bucket::Large, large, lengths.large, n);
+    mark_list(
+        words,
+        &mut marks,
+        setup.small,
+        setup.large,
+        Bucket::Small,
+        small,
+        lengths.small,
+        n,
+    );
+    mark_list(
+        words,
+        &mut marks,
+        setup.small,
+        setup.large,
+        Bucket::Medium,
+        medium,
+        lengths.medium,
+        n,
+    );
+    mark_list(
+        words,
+        &mut marks,
+        setup.small,
+        setup.large,
+        Bucket::Large,
+        large,
+        lengths.large,
+        n,
+    );
     let top = n as usize;
     audit_marked(words, &firsts[..top], &marks, n, head.root, live, sheet)
 }
@@ -371,26 +440,33 @@ fn entries_found(small: &[u32], medium: &[u32], large: &[u32], lengths: Lengths,
     requires { ⌜ EntriesReady (lists lengths (now small) (now medium) (now large)) ⌝ }
     ensures { λ r. ⌜ r ≡ entriesFound (lists lengths (now (small .entry)) (now (medium .entry)) (now (large .entry))) n ⌝ }
 {
-    let none = Verdict {
-        rule: 0,
-        place: 0,
-    };
+    let none = Verdict { rule: 0, place: 0 };
     let c = entry_found(large, lengths.large, n, none);
     let b = entry_found(medium, lengths.medium, n, c);
     entry_found(small, lengths.small, n, b)
 }
 
 // The audit: the lowest-numbered rule of soundness that is broken, and the lowest place that breaks it. It changes nothing.
-pub fn audit(words: &[u32], generations: &[u8], small: &[u32], medium: &[u32], large: &[u32], head: Head) -> Verdict
+pub fn audit(
+    words: &[u32],
+    generations: &[u8],
+    small: &[u32],
+    medium: &[u32],
+    large: &[u32],
+    head: Head,
+) -> Verdict
     requires { ⌜ Lent (length (now words)) (length (now generations)) (length (now small)) (length (now medium)) (length (now large)) ⌝ }
     ensures { λ r. ⌜ Audited (state head (now (words .entry)) (now (generations .entry)) (now (small .entry)) (now (medium .entry)) (now (large .entry)))
         (r .rule) (r .place) ⌝ }
 {
-    if !numbers_hold(generations.len(), small.len(), medium.len(), large.len(), head) {
-        return Verdict {
-            rule: 1,
-            place: 0,
-        };
+    if !numbers_hold(
+        generations.len(),
+        small.len(),
+        medium.len(),
+        large.len(),
+        head,
+    ) {
+        return Verdict { rule: 1, place: 0 };
     }
     let n = head.count;
     let lengths = head.lengths;
@@ -401,19 +477,29 @@ pub fn audit(words: &[u32], generations: &[u8], small: &[u32], medium: &[u32], l
     let unused = steps::unused_below(words, n);
     let spare = head.spare;
     if !links::spare_walk(words, n, spare, unused) {
-        return Verdict {
-            rule: 2,
-            place: 0,
-        };
+        return Verdict { rule: 2, place: 0 };
     }
     audit_tree(words, small, medium, large, head, n - unused)
 }
 
 // The check of the tables, whatever they hold. 1: a table length is out of range; 2: the tables are not sound; 0: they are.
-pub fn check(words: &[u32], generations: &[u8], small: &[u32], medium: &[u32], large: &[u32], head: Head) -> u32
+pub fn check(
+    words: &[u32],
+    generations: &[u8],
+    small: &[u32],
+    medium: &[u32],
+    large: &[u32],
+    head: Head,
+) -> u32
     ensures { λ r. ⌜ Checked (state head (now (words .entry)) (now (generations .entry)) (now (small .entry)) (now (medium .entry)) (now (large .entry))) r ⌝ }
 {
-    if !starts::is_lent(words.len(), generations.len(), small.len(), medium.len(), large.len()) {
+    if !starts::is_lent(
+        words.len(),
+        generations.len(),
+        small.len(),
+        medium.len(),
+        large.len(),
+    ) {
         return 1;
     }
     let found = audit(words, generations, small, medium, large, head);

@@ -1,53 +1,41 @@
+use Rattle.steps.specs.State.{state}
+use mathlib.Core.Path.{sym, _∙_}
+use borrow.Author.Tests.{not-true, not-false}
+use Rattle.audit.specs.CountLaws.{numbers-ready, numbers-table}
+use Rattle.audit.specs.AuditLaws.{audit-numbers, audit-entries, audit-spare, audit-tree-ready, audit-judged}
 use borrow.Author.Needs.{needs}
 use Rattle.audit.proofs.audit.Statement.{statement}
 use Rattle.audit.proofs.audit.Tie as tie
-use Rattle.audit.proofs.audit.Reads as reads
-use Rattle.audit.proofs.audit.Lts as lts
-use Rattle.audit.proofs.audit_tree.Reads as audit-tree-reads
-use Rattle.audit.proofs.entries_found.Reads as entries-found-reads
-use Rattle.audit.proofs.numbers_hold.Reads as numbers-hold-reads
-use Rattle.links.proofs.spare_walk.Reads as spare-walk-reads
-use Rattle.steps.proofs.unused_below.Reads as unused-below-reads
 
--- src/lib.rt:389:9
 numbers-hold-requires : tie.Need-numbers-hold-requires
 numbers-hold-requires c κs = search needs
 
--- src/lib.rt:390:9
 returns : tie.Need-returns
-returns c = ?
+returns c = audit-numbers _ (c .before .before .before .before .before .before .before .pre) (sym (c .before .numbers-hold .ensures) ∙ not-true _ (c .if1 .taken))
 
--- src/lib.rt:397:9
 entries-found-requires : tie.Need-entries-found-requires
-entries-found-requires c κs = ?
+entries-found-requires c κs = let b = c .before .before .before .before .before .before .before .before in let a = b .args in let s = state (a .head) (a .words .now) (a .generations .now) (a .small .now) (a .medium .now) (a .large .now) in numbers-ready s (b .pre) (sym (c .before .before .numbers-hold .ensures) ∙ not-false _ (c .before .if1 .left))
 
--- src/lib.rt:399:9
 returns-2 : tie.Need-returns-2
-returns-2 c = ?
+returns-2 c = audit-entries _ (c .before .before .before .before .before .before .before .before .before .before .before .pre) (sym (c .before .before .before .before .before .numbers-hold .ensures) ∙ not-false _ (c .before .before .before .before .if1 .left)) (c .before .before .entries-found .ensures) (c .if2 .taken)
 
--- src/lib.rt:401:9
 unused-below-requires : tie.Need-unused-below-requires
-unused-below-requires c κs = ?
+unused-below-requires c κs = let b = c .before .before .before .before .before .before .before .before .before .before .before in let a = b .args in let s = state (a .head) (a .words .now) (a .generations .now) (a .small .now) (a .medium .now) (a .large .now) in numbers-table s (b .pre) (sym (c .before .before .before .before .before .numbers-hold .ensures) ∙ not-false _ (c .before .before .before .before .if1 .left)) .slots
 
--- src/lib.rt:403:9
 spare-walk-requires : tie.Need-spare-walk-requires
-spare-walk-requires c κs = ?
+spare-walk-requires c κs = let b = c .before .before .before .before .before .before .before .before .before .before .before .before .before in let a = b .args in let s = state (a .head) (a .words .now) (a .generations .now) (a .small .now) (a .medium .now) (a .large .now) in numbers-table s (b .pre) (sym (c .before .before .before .before .before .before .before .numbers-hold .ensures) ∙ not-false _ (c .before .before .before .before .before .before .if1 .left))
 
--- src/lib.rt:404:9
 returns-3 : tie.Need-returns-3
-returns-3 c = ?
+returns-3 c = audit-spare _ (c .before .before .before .before .before .before .before .before .before .before .before .before .before .before .before .pre) (sym (c .before .before .before .before .before .before .before .before .before .numbers-hold .ensures) ∙ not-false _ (c .before .before .before .before .before .before .before .before .if1 .left)) (c .before .before .before .before .before .before .entries-found .ensures) (c .before .before .before .before .if2 .left) (c .before .before .before .unused-below .ensures .0) (sym (c .before .spare-walk .ensures) ∙ not-true _ (c .if3 .taken))
 
--- src/lib.rt:409:51
 sub-audit-tree : tie.Need-sub-audit-tree
 sub-audit-tree c = search needs
 
--- src/lib.rt:409:5
 audit-tree-requires : tie.Need-audit-tree-requires
-audit-tree-requires c κs = ?
+audit-tree-requires c κs = let b = c .before .before .before .before .before .before .before .before .before .before .before .before .before .before .before in let a = b .args in let s = state (a .head) (a .words .now) (a .generations .now) (a .small .now) (a .medium .now) (a .large .now) in audit-tree-ready s (b .pre) (sym (c .before .before .before .before .before .before .before .before .before .numbers-hold .ensures) ∙ not-false _ (c .before .before .before .before .before .before .before .before .if1 .left)) (c .before .before .before .before .before .before .entries-found .ensures) (c .before .before .before .before .if2 .left) (c .before .before .before .unused-below .ensures .0)
 
--- src/lib.rt:384:1
 returns-4 : tie.Need-returns-4
-returns-4 c = ?
+returns-4 c = audit-judged _ (c .before .before .before .before .before .before .before .before .before .before .before .before .before .before .before .before .pre) (sym (c .before .before .before .before .before .before .before .before .before .before .numbers-hold .ensures) ∙ not-false _ (c .before .before .before .before .before .before .before .before .before .if1 .left)) (c .before .before .before .before .before .before .before .entries-found .ensures) (c .before .before .before .before .before .if2 .left) (c .before .before .before .before .unused-below .ensures .0) (sym (c .before .before .spare-walk .ensures) ∙ not-false _ (c .before .if3 .left)) (c .audit-tree .ensures)
 
 pub audit-spec : {M : Type 1} → statement M
 audit-spec =

@@ -1,4 +1,3 @@
-use mathlib.Core.Path.{sym, _∙_}
 use borrow.Author.Tests.{not-true, not-false}
 use Rattle.audit.specs.JudgeLaws.{judge-split, judge-unfilled, judge-unlisted, judge-last-ready, judge-sound, judge-last}
 use borrow.Author.Needs.{needs}

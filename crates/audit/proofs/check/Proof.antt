@@ -1,30 +1,25 @@
+use mathlib.Core.Path.{sym, _∙_}
+use borrow.Author.Tests.{not-true, not-false}
+use Rattle.starts.specs.LentLaws.{lent-yes}
+use Rattle.audit.specs.Exact.{checked-1, checked-2, checked-0}
 use borrow.Author.Needs.{needs}
 use Rattle.audit.proofs.check.Statement.{statement}
 use Rattle.audit.proofs.check.Tie as tie
-use Rattle.audit.proofs.check.Reads as reads
-use Rattle.audit.proofs.check.Lts as lts
-use Rattle.audit.proofs.audit.Reads as audit-reads
-use Rattle.starts.proofs.is_lent.Reads as is-lent-reads
 
--- src/lib.rt:416:9
 is-lent-requires : tie.Need-is-lent-requires
 is-lent-requires c κs = search needs
 
--- src/lib.rt:417:9
 returns : tie.Need-returns
-returns c = ?
+returns c = checked-1 _ (sym (c .before .is-lent .ensures) ∙ not-true _ (c .if1 .taken))
 
--- src/lib.rt:419:9
 audit-requires : tie.Need-audit-requires
-audit-requires c κs = ?
+audit-requires c κs = lent-yes _ _ _ _ _ (sym (c .before .is-lent .ensures) ∙ not-false _ (c .if1 .left))
 
--- src/lib.rt:421:9
 returns-2 : tie.Need-returns-2
-returns-2 c = ?
+returns-2 c = checked-2 _ (lent-yes _ _ _ _ _ (sym (c .before .before .before .before .is-lent .ensures) ∙ not-false _ (c .before .before .before .if1 .left))) (c .before .before .audit .ensures) (c .if2 .taken)
 
--- src/lib.rt:413:1
 returns-3 : tie.Need-returns-3
-returns-3 c = ?
+returns-3 c = checked-0 _ (lent-yes _ _ _ _ _ (sym (c .before .before .before .before .is-lent .ensures) ∙ not-false _ (c .before .before .before .if1 .left))) (c .before .before .audit .ensures) (c .if2 .left)
 
 pub check-spec : {M : Type 1} → statement M
 check-spec = tie.close (tie.spec is-lent-requires returns audit-requires returns-2 returns-3)
