@@ -5,20 +5,8 @@ use geometry::Bucket;
 use geometry::Orientation;
 use geometry::Rectangle;
 use geometry::Rounded;
-ghost use mathlib.Core.Path.{_≡_};
 ghost use Prim.Native.Nat.{_+_, _<_};
 ghost use Rattle.geometry.specs.Cuts.{FitsIn};
-ghost use Rattle.replay.specs.Bits.{signed};
-
-// The i32 with these bits.
-fn signed(bits: u32) -> i32
-    ensures { λ r. ⌜ r ≡ signed bits ⌝ }
-{
-    if bits < 2147483648 {
-        return bits as i32;
-    }
-    -1 - ((4294967295 - bits) as i32)
-}
 
 fn rank(bucket: Bucket) -> u32 {
     match bucket {
@@ -38,8 +26,8 @@ pub fn bucket(line: &[u32; 128]) -> Verdict {
     if h > 2147483647 {
         return Verdict::Fault;
     }
-    let small = geometry::natural(signed(line[1]));
-    let large = geometry::natural(signed(line[2]));
+    let small = geometry::natural(reading::signed(line[1]));
+    let large = geometry::natural(reading::signed(line[2]));
     let ours = geometry::free_list_for_size(small, large, w, h);
     told(rank(ours) == line[5])
 }
@@ -50,7 +38,7 @@ pub fn rounding(line: &[u32; 128]) -> Verdict {
     if side > 2147483647 {
         return Verdict::Fault;
     }
-    let alignment = geometry::natural(signed(line[1]));
+    let alignment = geometry::natural(reading::signed(line[1]));
     if alignment == 0 {
         return Verdict::Fault;
     }

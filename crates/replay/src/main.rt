@@ -2,14 +2,15 @@
 // code against it and writes what agrees. A line on which our code gives something else is a mismatch; one that is
 // out of form, of no known kind, or on which our code must not be called is a fault.
 mod leaves;
-mod reader;
 mod report;
 mod tickets;
 mod verdict;
 
-use reader::Line;
+use reading::Line;
+use reading::Reading;
 use verdict::Tally;
 use verdict::Verdict;
+ghost use Prim.Native.Nat.{_≤_};
 
 // How many numbers a line of this kind has, and 0 for a kind that is not known. A list's line says how many follow.
 fn numbers_on(kind: u32, listed: u32) -> usize {
@@ -59,105 +60,66 @@ fn count_kind(counts: &mut [u64; 32], kind: u32, verdict: Verdict) {
         _ => {
             let at = kind as usize;
             if at < 32 {
-                counts[at] = verdict::more(counts[at]);
+                counts[at] = reading::more(counts[at]);
             }
         }
     }
 }
 
-// Takes a line that has ended.
+// Takes a line that was read. At the end of the input there is none.
 fn take_line(numbers: &[u32; 128], counts: &mut [u64; 32], line: Line, tally: Tally) -> Tally {
+    if reading::is_blank(line) {
+        return tally;
+    }
     let kind = numbers[0];
     let verdict = verdict_of(numbers, line);
     count_kind(counts, kind, verdict);
     verdict::counted(tally, kind, verdict)
 }
 
-// What is kept from byte to byte, beside the line's numbers and the counts of each kind.
-struct Reading {
-    line: Line,
+// The counts so far, and where the input stands.
+struct Pass {
     tally: Tally,
-    more: bool,
-}
-
-fn take_byte(
-    numbers: &mut [u32; 128],
-    counts: &mut [u64; 32],
     reading: Reading,
-    byte: u8,
-) -> Reading {
-    let line = reading.line;
-    let tally = reading.tally;
-    if byte == b'\n' {
-        let whole = reader::closed(numbers, line);
-        return Reading {
-            line: reader::blank(),
-            tally: take_line(numbers, counts, whole, tally),
-            more: true,
-        };
-    }
-    Reading {
-        line: reader::next(numbers, line, byte),
-        tally: tally,
-        more: true,
-    }
 }
 
-fn take_bytes(
-    bytes: &[u8],
+fn take_next(
     numbers: &mut [u32; 128],
+    buffer: &mut [u8; 65536],
     counts: &mut [u64; 32],
-    reading: Reading,
-) -> Reading {
-    let mut now = reading;
-    let mut i = 0;
-    while i < bytes.len() {
-        now = take_byte(numbers, counts, now, bytes[i]);
-        i += 1;
+    pass: Pass,
+) -> Pass
+    requires { ⌜ pass .reading .end ≤ 65536 ⌝ }
+    ensures { λ r. ⌜ r .reading .end ≤ 65536 ⌝ }
+{
+    let before = pass.reading;
+    let tally = pass.tally;
+    let after = reading::next_line(numbers, buffer, before);
+    let line = after.line;
+    Pass {
+        tally: take_line(numbers, counts, line, tally),
+        reading: after,
     }
-    now
-}
-
-// Reads once and takes what came, or says that no more came.
-fn read_some(numbers: &mut [u32; 128], counts: &mut [u64; 32], reading: Reading) -> Reading {
-    let mut buffer = io::large_buffer();
-    let n = io::read_full(0, &mut buffer);
-    if n == 0 {
-        let mut ended = reading;
-        ended.more = false;
-        return ended;
-    }
-    take_bytes(&buffer[..n], numbers, counts, reading)
 }
 
 // Nothing says that the input ends, so the loop counts its turns down from a number that no run uses up.
-fn read_all(numbers: &mut [u32; 128], counts: &mut [u64; 32]) -> Reading {
-    let mut reading = Reading {
-        line: reader::blank(),
+fn read_all(counts: &mut [u64; 32]) -> Tally {
+    let mut numbers = [0u32; 128];
+    let mut buffer = io::large_buffer();
+    let mut pass = Pass {
         tally: verdict::none_yet(),
-        more: true,
+        reading: reading::unread(),
     };
     let mut turns = u64::MAX;
-    while turns > 0 && reading.more {
-        reading = read_some(numbers, counts, reading);
+    while turns > 0 && !pass.reading.ended {
+        pass = take_next(&mut numbers, &mut buffer, counts, pass);
         turns -= 1;
     }
-    reading
-}
-
-// A last line without its newline is a fault.
-fn ended(reading: Reading) -> Tally {
-    let line = reading.line;
-    let tally = reading.tally;
-    if reader::is_blank(line) {
-        return tally;
-    }
-    verdict::counted(tally, 0, Verdict::Fault)
+    pass.tally
 }
 
 fn main() {
-    let mut numbers = [0u32; 128];
     let mut counts = [0u64; 32];
-    let reading = read_all(&mut numbers, &mut counts);
-    report::report(&counts, ended(reading));
+    let tally = read_all(&mut counts);
+    report::report(&counts, tally);
 }

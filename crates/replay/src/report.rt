@@ -1,11 +1,6 @@
 // What the program writes at the end.
 use crate::verdict::Tally;
-
-fn say(words: &[u8], number: u64) {
-    io::write_all(1, words);
-    io::print_decimal(1, number);
-    io::write_all(1, b"\n");
-}
+use reading::say;
 
 // A kind of line, as docs/ORACLE.md numbers them, and how many there were.
 fn say_kind(kind: u64, number: u64) {

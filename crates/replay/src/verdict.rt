@@ -38,14 +38,6 @@ pub fn none_yet() -> Tally {
     }
 }
 
-// One more, but for the largest number, which stays.
-pub fn more(n: u64) -> u64 {
-    if n == u64::MAX {
-        return n;
-    }
-    n + 1
-}
-
 pub fn told(agrees: bool) -> Verdict {
     if agrees {
         return Verdict::Agrees;
@@ -59,7 +51,7 @@ fn mismatched(tally: Tally, kind: u32) -> Tally {
         after.first_mismatch = tally.lines;
         after.mismatch_kind = kind;
     }
-    after.mismatches = more(tally.mismatches);
+    after.mismatches = reading::more(tally.mismatches);
     after
 }
 
@@ -68,23 +60,23 @@ fn faulted(tally: Tally) -> Tally {
     if tally.faults == 0 {
         after.first_fault = tally.lines;
     }
-    after.faults = more(tally.faults);
+    after.faults = reading::more(tally.faults);
     after
 }
 
 // The counts after one more line of this kind.
 pub fn counted(tally: Tally, kind: u32, verdict: Verdict) -> Tally {
     let mut after = tally;
-    after.lines = more(tally.lines);
+    after.lines = reading::more(tally.lines);
     match verdict {
         Verdict::Agrees => after,
         Verdict::Ticket => {
-            after.tickets = more(tally.tickets);
-            after.later = more(tally.later);
+            after.tickets = reading::more(tally.tickets);
+            after.later = reading::more(tally.later);
             after
         }
         Verdict::Later => {
-            after.later = more(tally.later);
+            after.later = reading::more(tally.later);
             after
         }
         Verdict::Differs => mismatched(after, kind),

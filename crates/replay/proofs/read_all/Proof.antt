@@ -1,27 +1,31 @@
--- `replay::read_all` is safe and ends. The measure is the number of turns that are left.
--- Nothing has to hold from turn to turn, so the invariant is `Unit {0}`, the fact that says nothing, which `tt` shows.
+-- `replay::read_all` is safe and ends: what was read stays within the buffer, and the measure is the number of turns that are left.
 -- Assumes nothing.
+use Prim.Native.Nat.{_≤_}
 use native.Mathlib.Omega.{arith}
+use borrow.Author.Needs.{needs}
 use Rattle.replay.proofs.read_all.Statement.{statement}
 use Rattle.replay.proofs.read_all.Tie as tie
 
 abbrev Inv-loop : tie.InvT-loop
-Inv-loop numbers₀ counts₀ reading₀ turns₀ numbers counts reading turns = Unit {0}
+Inv-loop counts₀ numbers₀ buffer₀ pass₀ turns₀ counts numbers buffer pass turns = pass .reading .end ≤ 65536
 
 abbrev μ-loop : tie.MeasureT-loop
-μ-loop numbers₀ counts₀ reading₀ turns₀ numbers counts reading turns = turns
+μ-loop counts₀ numbers₀ buffer₀ pass₀ turns₀ counts numbers buffer pass turns = turns
 
-blank-requires : tie.Need-blank-requires Inv-loop μ-loop
-blank-requires c κs = tt
+large-buffer-requires : tie.Need-large-buffer-requires Inv-loop μ-loop
+large-buffer-requires c κs = tt
 
 none-yet-requires : tie.Need-none-yet-requires Inv-loop μ-loop
 none-yet-requires c κs = tt
 
-loop-holds : tie.Need-loop-holds Inv-loop μ-loop
-loop-holds c = tt
+unread-requires : tie.Need-unread-requires Inv-loop μ-loop
+unread-requires c κs = tt
 
-read-some-requires : tie.Need-read-some-requires Inv-loop μ-loop
-read-some-requires c κs = tt
+loop-holds : tie.Need-loop-holds Inv-loop μ-loop
+loop-holds c = search needs
+
+take-next-requires : tie.Need-take-next-requires Inv-loop μ-loop
+take-next-requires c κs = search needs
 
 sub-turns : tie.Need-sub-turns Inv-loop μ-loop
 sub-turns c = omega arith
@@ -30,13 +34,10 @@ loop-less : tie.Need-loop-less Inv-loop μ-loop
 loop-less c = omega arith
 
 loop-again : tie.Need-loop-again Inv-loop μ-loop
-loop-again c = tt
+loop-again c = search needs
 
 returns : tie.Need-returns Inv-loop μ-loop
 returns c = tt
-
-returns-2 : tie.Need-returns-2 Inv-loop μ-loop
-returns-2 c = tt
 
 pub read-all-spec : {M : Type 1} → statement M
 read-all-spec =
@@ -44,12 +45,12 @@ read-all-spec =
     (tie.spec
     Inv-loop
     μ-loop
-    blank-requires
+    large-buffer-requires
     none-yet-requires
+    unread-requires
     loop-holds
-    read-some-requires
+    take-next-requires
     sub-turns
     loop-less
     loop-again
-    returns
-    returns-2)
+    returns)

@@ -10,7 +10,7 @@ use borrow.Author.Tests.{lt-ltb, le-ltb}
 use mir.Syntax.{w32}
 use mir.Val.{SFits, toZ, ofZ}
 use mir.Facts.{toZ-pos, toZ-ofZ}
-use Rattle.replay.specs.Bits.{signed}
+use Rattle.reading.specs.Bits.{signed}
 
 minus-one-less : (k : ℕ) → negsuc 0 -ℤ pos k ≡ negsuc k
 minus-one-less zero = refl

@@ -1,9 +1,9 @@
--- `replay::leaves::signed` meets its contract: the two answers are laws of `proofs/SignedBits`.
+-- `reading::signed` meets its contract: the two answers are laws of `proofs/SignedBits`.
 -- Assumes nothing.
 use borrow.Author.Needs.{needs}
-use Rattle.replay.proofs.SignedBits.{low-half, high-half-fits, high-half}
-use Rattle.replay.proofs.leaves.signed.Statement.{statement}
-use Rattle.replay.proofs.leaves.signed.Tie as tie
+use Rattle.reading.proofs.SignedBits.{low-half, high-half-fits, high-half}
+use Rattle.reading.proofs.signed.Statement.{statement}
+use Rattle.reading.proofs.signed.Tie as tie
 
 cast-result : tie.Need-cast-result
 cast-result c = search needs
