@@ -1,3 +1,4 @@
 pub mod Gaps
 pub mod Frame
 pub mod Lasts
+pub mod Swaps
