@@ -17,6 +17,7 @@ use Rattle.forest.specs.Pigeon.{In, Distinct}
 use Rattle.forest.specs.Forest.{Forest, empty, slot, head, slots, Shape, Here, Rep, Represents, in-left, in-right, in-children, in-after}
 use Rattle.forest.specs.Back.{to-inj, no-link, linked}
 use Rattle.forest.specs.Place.{SlotAt, Then, PlaceF, place-table, table-place}
+use Rattle.forest.specs.Fill.{below-placed, after-placed}
 use Rattle.changes.specs.Gaps.{Gap, here, under, past, plug, rim, parentAt, prevAt, orientationAt, fill-in, rim-in, plug-head}
 
 -- LINKS
@@ -136,6 +137,17 @@ module _ (get get′ : ℕ → Seen) where
       place-slot a C C (plug K T) (plug K T′) (h a (inl refl)) (plug-head K T T′ e)
       (place-same C (λ j m. h j (inr (in-left (slots C) (rim K) j m))))
       (place-replace K T T′ e (λ j m. h j (inr (in-right (slots C) (rim K) j m))) f) r w
+
+-- Where the whole has a place, so has what fills the gap.
+pub place-fill : (get : ℕ → Seen) (n : ℕ) (K : Gap) (T : Forest) (i : ℕ) → In i (slots T) → (p v : Link) (o : Orientation) → Rep get n p v o (plug K T)
+    → (r : Rectangle) → PlaceF get (plug K T) r → (w : Rectangle) × PlaceF get T w
+place-fill get n here T i m p v o R r h = (r, h)
+place-fill get n (under a K S) T i m p v o R r h =
+    place-fill get n K T i m (to a) none (flip o) (R .1) (h .0)
+    (below-placed get n (get a .kind) (plug K T) (get a .rect) (h .0) i (R .0 .shape) (fill-in K T i m) (h .1))
+place-fill get n (past a C K) T i m p v o R r h =
+    let w = after-placed get n (plug K T) (get a .orientation) (h .0) r i (fill-in K T i m) (h .2) in
+    place-fill get n K T i m p (to a) o (R .2) (w .0) (w .1)
 
 -- The place of a represented forest is the place that rule 5 gives the chain from root, and the other way.
 pub chain-placed : (get : ℕ → Seen) (n root : ℕ) (F : Forest) → Represents get n root F → (r : Rectangle) → PlaceF get F r → PlaceChain get n root r

@@ -17,7 +17,7 @@ use Rattle.forest.specs.Bridge.{forest}
 use Rattle.forest.specs.Back.{to-inj, no-link, by-place, in-live, linked}
 use Rattle.forest.specs.Place.{PlaceF}
 use Rattle.changes.specs.Gaps.{Gap, plug, rim, parentAt, prevAt, orientationAt, locate, in-plug, fill-in, rim-in, rim-apart, distinct-fill, rep-fill}
-use Rattle.changes.specs.Frame.{SameBody, same-body, rep-same, frame, frame-placed}
+use Rattle.changes.specs.Frame.{SameBody, same-body, rep-same, place-fill, placed-chain, frame, frame-placed}
 use Rattle.changes.specs.Lasts.{LastF, last-replace, last-forest, forest-last}
 
 -- WHAT A STEP WRITES
@@ -125,41 +125,62 @@ pub record Kept (get get′ : ℕ → Seen) (n n′ root : ℕ) : Type 0 where
   pub places : (r : Rectangle) → PlaceChain get n root r → PlaceChain get′ n′ root r
   pub lasts : LastTrue get n → LastTrue get′ n′
 
-module _ (get get′ : ℕ → Seen) (n n′ root : ℕ) (grow : n ≤ n′) where
-  module _ (K : Gap) (T T′ : Forest) (R : Represents get n root (plug K T))
-      (s : Swap get get′ n n′ (parentAt K none) (prevAt K none) (orientationAt K (get root .orientation)) T T′) where
-    round : (j : ℕ) → In j (rim K) → get′ j ≡ get j
-    round j m =
-        s .others j (in-live get n none none (get root .orientation) (plug K T) (R .along) j (rim-in K T j m))
-        (rim-apart K T (rep-distinct get n none none (get root .orientation) (plug K T) (R .along) 0 refl) j m)
+module _ (get get′ : ℕ → Seen) (n n′ root : ℕ) (grow : n ≤ n′) (K : Gap) (T T′ : Forest) (R : Represents get n root (plug K T))
+    (s : Swap get get′ n n′ (parentAt K none) (prevAt K none) (orientationAt K (get root .orientation)) T T′) where
+  round : (j : ℕ) → In j (rim K) → get′ j ≡ get j
+  round j m =
+      s .others j (in-live get n none none (get root .orientation) (plug K T) (R .along) j (rim-in K T j m))
+      (rim-apart K T (rep-distinct get n none none (get root .orientation) (plug K T) (R .along) 0 refl) j m)
 
-    all : (j : ℕ) → Live get′ n′ j → In j (rim K) ⊎ In j (slots T′)
-    all j l =
-        ⊎-elim {C = In j (rim K) ⊎ In j (slots T′)} inr
-        (λ w. ⊎-elim {C = In j (rim K) ⊎ In j (slots T′)} inl (λ m. absurd (w .1 m)) (in-plug K T j (R .all j (w .0)))) (s .all j l)
+  all : (j : ℕ) → Live get′ n′ j → In j (rim K) ⊎ In j (slots T′)
+  all j l =
+      ⊎-elim {C = In j (rim K) ⊎ In j (slots T′)} inr
+      (λ w. ⊎-elim {C = In j (rim K) ⊎ In j (slots T′)} inl (λ m. absurd (w .1 m)) (in-plug K T j (R .all j (w .0)))) (s .all j l)
 
-    -- The table after a swap is the forest with its part swapped.
-    pub swap-represents : Represents get′ n′ root (plug K T′)
-    swap-represents = frame get get′ n n′ root grow K T T′ R (s .starts) round (s .holds) all
+  -- The table after a swap is the forest with its part swapped.
+  pub swap-represents : Represents get′ n′ root (plug K T′)
+  swap-represents = frame get get′ n n′ root grow K T T′ R (s .starts) round (s .holds) all
 
-    -- A swap keeps the rules.
-    pub swap-keeps : Kept get get′ n n′ root
-    swap-keeps = record {
-      links = linked get′ n′ root (plug K T′) swap-represents;
-      places = frame-placed get get′ n n′ root grow K T T′ R (s .starts) round (s .holds) all (s .places);
-      lasts = λ l. forest-last get′ n′ root (plug K T′) swap-represents
-          (last-replace get get′ K T T′ (s .starts) (λ j m. same-body (round j m)) (s .places) (s .lasts) (last-forest get n root (plug K T) R l));
-    }
+  -- A swap keeps the rules.
+  pub swap-keeps : Kept get get′ n n′ root
+  swap-keeps = record {
+    links = linked get′ n′ root (plug K T′) swap-represents;
+    places = frame-placed get get′ n n′ root grow K T T′ R (s .starts) round (s .holds) all (s .places);
+    lasts = λ l. forest-last get′ n′ root (plug K T′) swap-represents
+        (last-replace get get′ K T T′ (s .starts) (λ j m. same-body (round j m)) (s .places) (s .lasts) (last-forest get n root (plug K T) R l));
+  }
 
-  -- A step that, wherever slot i hangs, swaps the chain that starts at it keeps the rules.
-  pub step-keeps : (i : ℕ) → Linked get n root → Live get n i
-      → ((C S : Forest) (p v : Link) (o : Orientation) → Rep get n p v o (slot i C S) → Distinct (slots (slot i C S))
-      → (T′ : Forest) × Swap get get′ n n′ p v o (slot i C S) T′) → Kept get get′ n n′ root
-  step-keeps i L lv f =
-      let F = forest get n root L in
-      let c = locate (F .0) i (F .1 .all i lv) in
-      let T = slot i (c .1) (c .2) in
-      let R : Represents get n root (plug (c .0) T) = rw (c .3) at (F .1) in
-      let D = rep-distinct get n none none (get root .orientation) (plug (c .0) T) (R .along) 0 refl in
-      let s = f (c .1) (c .2) _ _ _ (rep-fill get n (c .0) T none none (get root .orientation) (R .along)) (distinct-fill (c .0) T D) in
-      swap-keeps (c .0) T (s .0) R (s .1)
+-- Where a slot stands in the forest of a table, and the place of the chain that starts at it.
+pub record At (get : ℕ → Seen) (n root i : ℕ) : Type 0 where
+  pub gap : Gap
+  pub below : Forest
+  pub after : Forest
+  pub whole : Represents get n root (plug gap (slot i below after))
+  pub place : Rectangle
+  pub placed : PlaceF get (slot i below after) place
+
+-- Each live slot stands somewhere.
+pub at-slot : (get : ℕ → Seen) (n root i : ℕ) → Linked get n root → (r : Rectangle) → PlaceChain get n root r → Live get n i → At get n root i
+at-slot get n root i L r P lv =
+    let F = forest get n root L in
+    let c = locate (F .0) i (F .1 .all i lv) in
+    let T = slot i (c .1) (c .2) in
+    let R : Represents get n root (plug (c .0) T) = rw (c .3) at (F .1) in
+    let w = place-fill get n (c .0) T i (inl refl) none none (get root .orientation) (R .along) r (placed-chain get n root (plug (c .0) T) R r P) in
+    record { gap = c .0; below = c .1; after = c .2; whole = R; place = w .0; placed = w .1 }
+
+-- Wherever the chain T hangs, it is swapped for another.
+abbrev pub Swaps : (ℕ → Seen) → (ℕ → Seen) → ℕ → ℕ → Forest → Type 0
+Swaps get get′ n n′ T = (p v : Link) (o : Orientation) → Rep get n p v o T → Distinct (slots T) → (w : Rectangle) → PlaceF get T w
+    → (T′ : Forest) × Swap get get′ n n′ p v o T T′
+
+-- A step that swaps the chain that starts at slot i keeps the rules.
+pub step-keeps : (get get′ : ℕ → Seen) (n n′ root i : ℕ) → n ≤ n′ → Linked get n root → (r : Rectangle) → PlaceChain get n root r → Live get n i
+    → ((C S : Forest) → Swaps get get′ n n′ (slot i C S)) → Kept get get′ n n′ root
+step-keeps get get′ n n′ root i grow L r P lv f =
+    let a = at-slot get n root i L r P lv in
+    let T = slot i (a .below) (a .after) in
+    let D = rep-distinct get n none none (get root .orientation) (plug (a .gap) T) (a .whole .along) 0 refl in
+    let R = rep-fill get n (a .gap) T none none (get root .orientation) (a .whole .along) in
+    let s = f (a .below) (a .after) _ _ _ R (distinct-fill (a .gap) T D) (a .place) (a .placed) in
+    swap-keeps get get′ n n′ root grow (a .gap) T (s .0) (a .whole) (s .1)
