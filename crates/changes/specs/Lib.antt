@@ -6,3 +6,4 @@ pub mod Joins
 pub mod Stands
 pub mod Trades
 pub mod Merges
+pub mod Grants
