@@ -91,15 +91,18 @@ module _ (get get′ : ℕ → Seen) (v′ : Link) where
 
 -- THE SWAP
 
--- The table has the chain `T′` where it had `T`, at parent p, prev v and orientation o: it starts at the same slot, has the
--- same place, and obeys rule 7 if T did; no other live slot changed, and a slot live now is in T′ or was live outside T.
+-- The table has the chain `T′` where it had `T`, at parent p, prev v and orientation o: it starts at the same slot; no other
+-- live slot changed, and a slot live now is in T′ or was live outside T.
 pub record Swap (get get′ : ℕ → Seen) (n n′ : ℕ) (p v : Link) (o : Orientation) (T T′ : Forest) : Type 0 where
   pub starts : head T′ ≡ head T
   pub holds : Rep get′ n′ p v o T′
-  pub places : (r : Rectangle) → PlaceF get T r → PlaceF get′ T′ r
-  pub lasts : LastF get T → LastF get′ T′
   pub others : (j : ℕ) → Live get n j → (In j (slots T) → ⊥) → get′ j ≡ get j
   pub all : (j : ℕ) → Live get′ n′ j → In j (slots T′) ⊎ (Live get n j × (In j (slots T) → ⊥))
+
+-- A fair swap: T′ has the place that T had, and obeys rule 7 if T did.
+pub record Fair (get get′ : ℕ → Seen) (T T′ : Forest) : Type 0 where
+  pub places : (r : Rectangle) → PlaceF get T r → PlaceF get′ T′ r
+  pub lasts : LastF get T → LastF get′ T′
 
 -- The last two, of a step that writes slots `old` of T and takes the slots `new`.
 module _ {get get′ : ℕ → Seen} {n n′ : ℕ} {after v : Link} (old new : List ℕ) (W : Taken get n n′ new) (E : Elsewhere get get′ (old ++ new) after v)
@@ -127,7 +130,8 @@ pub record Kept (get get′ : ℕ → Seen) (n n′ root : ℕ) : Type 0 where
 
 module _ (get get′ : ℕ → Seen) (n n′ root : ℕ) (grow : n ≤ n′) (K : Gap) (T T′ : Forest) (R : Represents get n root (plug K T))
     (s : Swap get get′ n n′ (parentAt K none) (prevAt K none) (orientationAt K (get root .orientation)) T T′) where
-  round : (j : ℕ) → In j (rim K) → get′ j ≡ get j
+  -- No slot round the gap changed.
+  pub round : (j : ℕ) → In j (rim K) → get′ j ≡ get j
   round j m =
       s .others j (in-live get n none none (get root .orientation) (plug K T) (R .along) j (rim-in K T j m))
       (rim-apart K T (rep-distinct get n none none (get root .orientation) (plug K T) (R .along) 0 refl) j m)
@@ -141,13 +145,13 @@ module _ (get get′ : ℕ → Seen) (n n′ root : ℕ) (grow : n ≤ n′) (K 
   pub swap-represents : Represents get′ n′ root (plug K T′)
   swap-represents = frame get get′ n n′ root grow K T T′ R (s .starts) round (s .holds) all
 
-  -- A swap keeps the rules.
-  pub swap-keeps : Kept get get′ n n′ root
-  swap-keeps = record {
+  -- A fair swap keeps the rules.
+  pub swap-keeps : Fair get get′ T T′ → Kept get get′ n n′ root
+  swap-keeps f = record {
     links = linked get′ n′ root (plug K T′) swap-represents;
-    places = frame-placed get get′ n n′ root grow K T T′ R (s .starts) round (s .holds) all (s .places);
+    places = frame-placed get get′ n n′ root grow K T T′ R (s .starts) round (s .holds) all (f .places);
     lasts = λ l. forest-last get′ n′ root (plug K T′) swap-represents
-        (last-replace get get′ K T T′ (s .starts) (λ j m. same-body (round j m)) (s .places) (s .lasts) (last-forest get n root (plug K T) R l));
+        (last-replace get get′ K T T′ (s .starts) (λ j m. same-body (round j m)) (f .places) (f .lasts) (last-forest get n root (plug K T) R l));
   }
 
 -- Where a slot stands in the forest of a table, and the place of the chain that starts at it.
@@ -169,12 +173,12 @@ at-slot get n root i L r P lv =
     let w = place-fill get n (c .0) T i (inl refl) none none (get root .orientation) (R .along) r (placed-chain get n root (plug (c .0) T) R r P) in
     record { gap = c .0; below = c .1; after = c .2; whole = R; place = w .0; placed = w .1 }
 
--- Wherever the chain T hangs, it is swapped for another.
+-- Wherever the chain T hangs, it is swapped fairly for another.
 abbrev pub Swaps : (ℕ → Seen) → (ℕ → Seen) → ℕ → ℕ → Forest → Type 0
 Swaps get get′ n n′ T = (p v : Link) (o : Orientation) → Rep get n p v o T → Distinct (slots T) → (w : Rectangle) → PlaceF get T w
-    → (T′ : Forest) × Swap get get′ n n′ p v o T T′
+    → (T′ : Forest) × (Swap get get′ n n′ p v o T T′ × Fair get get′ T T′)
 
--- A step that swaps the chain that starts at slot i keeps the rules.
+-- A step that swaps fairly the chain that starts at slot i keeps the rules.
 pub step-keeps : (get get′ : ℕ → Seen) (n n′ root i : ℕ) → n ≤ n′ → Linked get n root → (r : Rectangle) → PlaceChain get n root r → Live get n i
     → ((C S : Forest) → Swaps get get′ n n′ (slot i C S)) → Kept get get′ n n′ root
 step-keeps get get′ n n′ root i grow L r P lv f =
@@ -183,4 +187,4 @@ step-keeps get get′ n n′ root i grow L r P lv f =
     let D = rep-distinct get n none none (get root .orientation) (plug (a .gap) T) (a .whole .along) 0 refl in
     let R = rep-fill get n (a .gap) T none none (get root .orientation) (a .whole .along) in
     let s = f (a .below) (a .after) _ _ _ R (distinct-fill (a .gap) T D) (a .place) (a .placed) in
-    swap-keeps get get′ n n′ root grow (a .gap) T (s .0) (a .whole) (s .1)
+    swap-keeps get get′ n n′ root grow (a .gap) T (s .0) (a .whole) (s .1 .0) (s .1 .1)

@@ -21,7 +21,7 @@ use Rattle.changes.specs.Gaps.{head-in}
 use Rattle.changes.specs.Joins.{join-adjoins, adjoins-join, second-adjoins, adjoins-first}
 use Rattle.changes.specs.Frame.{SameBody, place-same, then-more}
 use Rattle.changes.specs.Lasts.{LastF, last-same}
-use Rattle.changes.specs.Swaps.{Elsewhere, Taken, Carried, moved-carried, same-carried, carried-rep, carried-body, Swap, swap-others, swap-all}
+use Rattle.changes.specs.Swaps.{Elsewhere, Taken, Carried, moved-carried, same-carried, carried-rep, carried-body, Swap, Fair, swap-others, swap-all}
 use Rattle.changes.specs.Stands.{Stands, Was}
 
 module _ (get get′ : ℕ → Seen) (n n′ : ℕ) (p v : Link) (o : Orientation) (i : ℕ) where
@@ -40,15 +40,20 @@ module _ (get get′ : ℕ → Seen) (n n′ : ℕ) (p v : Link) (o : Orientatio
 
     pub one-swapped : (q : Rectangle) → Was get i C q → Stands get′ n′ p v o i C′ (head S) q
         → (get′ i .kind ≡ Container → get′ i .rect ≡ q) → ((j : ℕ) → In j new → In j (slots C′))
-        → ((j : ℕ) → In j (slots C) → Live get′ n′ j → In j (slots C′)) → Swap get get′ n n′ p v o (slot i C S) (slot i C′ S)
-    one-swapped q was st stored new-in stays = record {
-      starts = refl;
-      holds = (st .here, st .kids, carried-rep get get′ (to i) n n′ (W .grow) p (to i) o S DS carried (r .2));
-      places = λ w h. (q, st .place, then-more′ w h);
-      lasts = last S (last-same get get′ S body);
-      others = swap-others old new W elsewhere T T′ at-old (λ j e. absurd (no-link e));
-      all = swap-all old new W elsewhere T T′ at-old (λ j e. absurd (no-link e)) (λ j m. in-children j i C′ S (new-in j m)) stay;
-    }
+        → ((j : ℕ) → In j (slots C) → Live get′ n′ j → In j (slots C′))
+        → Swap get get′ n n′ p v o (slot i C S) (slot i C′ S) × Fair get get′ (slot i C S) (slot i C′ S)
+    one-swapped q was st stored new-in stays = (
+      record {
+        starts = refl;
+        holds = (st .here, st .kids, carried-rep get get′ (to i) n n′ (W .grow) p (to i) o S DS carried (r .2));
+        others = swap-others old new W elsewhere T T′ at-old (λ j e. absurd (no-link e));
+        all = swap-all old new W elsewhere T T′ at-old (λ j e. absurd (no-link e)) (λ j m. in-children j i C′ S (new-in j m)) stay;
+      },
+      record {
+        places = λ w h. (q, st .place, then-more′ w h);
+        lasts = last S (last-same get get′ S body);
+      },
+    )
       where
         T : Forest
         T = slot i C S
@@ -87,15 +92,20 @@ module _ (get get′ : ℕ → Seen) (n n′ : ℕ) (p v : Link) (o : Orientatio
 
     pub two-swapped : (q t : Rectangle) → Was get i empty (join q t) → Stands get′ n′ p v o i C′ (to s) q
         → Stands get′ n′ p (to i) o s empty (head S) t → Adjoin o q t → get′ s .kind ≡ Free
-        → ((j : ℕ) → In j new → (j ≡ s) ⊎ In j (slots C′)) → Swap get get′ n n′ p v o (slot i empty S) (slot i C′ (slot s empty S))
-    two-swapped q t was st su ad free new-in = record {
-      starts = refl;
-      holds = (st .here, st .kids, (su .here, tt, carried-rep get get′ (to s) n n′ (W .grow) p (to i) o S (D .1) after-carried (r .2)));
-      places = λ w h. (q, st .place, rw (st .here .orientation) (rest w S (rw (r .0 .orientation, was (h .0) (h .1)) at (h .2)) (place-same get get′ S body)));
-      lasts = last S (last-same get get′ S body);
-      others = swap-others (i ∷ []) new W E T T′ at-old next-in;
-      all = swap-all (i ∷ []) new W E T T′ at-old next-in at-new (λ j m l. ⊎-elim {C = In j (slots T′)} inl after m);
-    }
+        → ((j : ℕ) → In j new → (j ≡ s) ⊎ In j (slots C′))
+        → Swap get get′ n n′ p v o (slot i empty S) (slot i C′ (slot s empty S)) × Fair get get′ (slot i empty S) (slot i C′ (slot s empty S))
+    two-swapped q t was st su ad free new-in = (
+      record {
+        starts = refl;
+        holds = (st .here, st .kids, (su .here, tt, carried-rep get get′ (to s) n n′ (W .grow) p (to i) o S (D .1) after-carried (r .2)));
+        others = swap-others (i ∷ []) new W E T T′ at-old next-in;
+        all = swap-all (i ∷ []) new W E T T′ at-old next-in at-new (λ j m l. ⊎-elim {C = In j (slots T′)} inl after m);
+      },
+      record {
+        places = λ w h. (q, st .place, rw (st .here .orientation) (rest w S (rw (r .0 .orientation, was (h .0) (h .1)) at (h .2)) (place-same get get′ S body)));
+        lasts = last S (last-same get get′ S body);
+      },
+    )
       where
         T : Forest
         T = slot i empty S
@@ -138,16 +148,21 @@ module _ (get get′ : ℕ → Seen) (n n′ : ℕ) (p v : Link) (o : Orientatio
         (λ x m. ⊎-elim (λ e. D .0 (inr (rw e at m))) (⊎-elim (λ e. D .1 .0 (rw e at m)) (λ x. x)))
 
     pub one-of-two : (q t : Rectangle) → Was get i empty q → Was get j empty t → Stands get′ n′ p v o i empty (head S) (join q t)
-        → get′ i .kind ≡ Free → get′ j .kind ≡ Unused → Swap get get′ n n′ p v o (slot i empty (slot j empty S)) (slot i empty S)
-    one-of-two q t was wasj st free gone = record {
-      starts = refl;
-      holds = (st .here, tt, carried-rep get get′ (to i) n n′ (W .grow) p (to j) o S (D .1 .1) rest-carried (r .2 .2));
-      places = λ w h. (join q t, st .place, rest w h);
-      lasts = last S (last-same get get′ S body);
-      others = swap-others (i ∷ j ∷ []) [] W E T T′ at-old next-in;
-      all = swap-all (i ∷ j ∷ []) [] W E T T′ at-old next-in (λ x m. absurd m)
-          (λ x m l. ⊎-elim {C = In x (slots T′)} inl (⊎-elim {C = In x (slots T′)} (λ e. absurd (dead (rw e at (l .1)))) inr) m);
-    }
+        → get′ i .kind ≡ Free → get′ j .kind ≡ Unused
+        → Swap get get′ n n′ p v o (slot i empty (slot j empty S)) (slot i empty S) × Fair get get′ (slot i empty (slot j empty S)) (slot i empty S)
+    one-of-two q t was wasj st free gone = (
+      record {
+        starts = refl;
+        holds = (st .here, tt, carried-rep get get′ (to i) n n′ (W .grow) p (to j) o S (D .1 .1) rest-carried (r .2 .2));
+        others = swap-others (i ∷ j ∷ []) [] W E T T′ at-old next-in;
+        all = swap-all (i ∷ j ∷ []) [] W E T T′ at-old next-in (λ x m. absurd m)
+            (λ x m l. ⊎-elim {C = In x (slots T′)} inl (⊎-elim {C = In x (slots T′)} (λ e. absurd (dead (rw e at (l .1)))) inr) m);
+      },
+      record {
+        places = λ w h. (join q t, st .place, rest w h);
+        lasts = last S (last-same get get′ S body);
+      },
+    )
       where
         T : Forest
         T = slot i empty (slot j empty S)
