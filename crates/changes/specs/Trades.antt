@@ -38,22 +38,19 @@ module _ (get get′ : ℕ → Seen) (n n′ : ℕ) (p v : Link) (o : Orientatio
         (λ x. ⊎-elim (λ e. D .0 (in-right (slots C) (slots S) i (rw e at m))) (λ c. distinct-apart (slots C) (slots S) (D .1) j c m) (old-in j x))
         (λ x. W .idle j x (in-live get n p (to i) o S (r .2) j m)) (in-cases old new j w)))
 
-    pub one-swapped : (q : Rectangle) → Was get i C q → Stands get′ n′ p v o i C′ (head S) q
-        → (get′ i .kind ≡ Container → get′ i .rect ≡ q) → ((j : ℕ) → In j new → In j (slots C′))
-        → ((j : ℕ) → In j (slots C) → Live get′ n′ j → In j (slots C′))
-        → Swap get get′ n n′ p v o (slot i C S) (slot i C′ S) × Fair get get′ (slot i C S) (slot i C′ S)
-    one-swapped q was st stored new-in stays = (
-      record {
-        starts = refl;
-        holds = (st .here, st .kids, carried-rep get get′ (to i) n n′ (W .grow) p (to i) o S DS carried (r .2));
-        others = swap-others old new W elsewhere T T′ at-old (λ j e. absurd (no-link e));
-        all = swap-all old new W elsewhere T T′ at-old (λ j e. absurd (no-link e)) (λ j m. in-children j i C′ S (new-in j m)) stay;
-      },
-      record {
-        places = λ w h. (q, st .place, then-more′ w h);
-        lasts = last S (last-same get get′ S body);
-      },
-    )
+    body : (j : ℕ) → In j (slots S) → SameBody (get j) (get′ j)
+    body = carried-body get get′ (to i) S (distinct-right (slots C) (slots S) (D .1)) carried
+
+    -- Links: wherever it has its place,
+    pub one-swap : (q : Rectangle) → Stands get′ n′ p v o i C′ (head S) q → ((j : ℕ) → In j new → In j (slots C′))
+        → ((j : ℕ) → In j (slots C) → Live get′ n′ j → In j (slots C′)) → Swap get get′ n n′ p v o (slot i C S) (slot i C′ S)
+    one-swap q st new-in stays = record {
+      starts = refl;
+      holds = (st .here, st .kids, carried-rep get get′ (to i) n n′ (W .grow) p (to i) o S (distinct-right (slots C) (slots S) (D .1)) carried (r .2));
+      others = swap-others old new W elsewhere T T′ at-old (λ j e. absurd (no-link e));
+      all = swap-all old new W elsewhere T T′ at-old (λ j e. absurd (no-link e)) (λ j m. in-children j i C′ S (new-in j m))
+          (λ j m l. by-place {G = In j (slots T′)} j i C S inl (λ c. in-children j i C′ S (stays j c l)) (in-after j i C′ S) m);
+    }
       where
         T : Forest
         T = slot i C S
@@ -61,26 +58,31 @@ module _ (get get′ : ℕ → Seen) (n n′ : ℕ) (p v : Link) (o : Orientatio
         T′ : Forest
         T′ = slot i C′ S
 
-        DS : Distinct (slots S)
-        DS = distinct-right (slots C) (slots S) (D .1)
-
-        body : (j : ℕ) → In j (slots S) → SameBody (get j) (get′ j)
-        body = carried-body get get′ (to i) S DS carried
-
         at-old : (j : ℕ) → In j old → In j (slots T)
         at-old j m = ⊎-elim {C = In j (slots T)} inl (in-children j i C S) (old-in j m)
 
-        stay : (j : ℕ) → In j (slots T) → Live get′ n′ j → In j (slots T′)
-        stay j m l = by-place {G = In j (slots T′)} j i C S inl (λ c. in-children j i C′ S (stays j c l)) (in-after j i C′ S) m
-
-        then-more′ : (w : Rectangle) → PlaceF get T w → Then S (get′ i .orientation) q (PlaceF get′ S) w
-        then-more′ w h =
+    -- and fairly, where it has the place that it had.
+    pub one-fair : (q : Rectangle) → Was get i C q → Stands get′ n′ p v o i C′ (head S) q
+        → (get′ i .kind ≡ Container → get′ i .rect ≡ q) → Fair get get′ (slot i C S) (slot i C′ S)
+    one-fair q was st stored = record {
+      places = λ w h. (q, st .place, rest w h);
+      lasts = last S (last-same get get′ S body);
+    }
+      where
+        rest : (w : Rectangle) → PlaceF get (slot i C S) w → Then S (get′ i .orientation) q (PlaceF get′ S) w
+        rest w h =
             rw (st .here .orientation, ← r .0 .orientation, ← was (h .0) (h .1))
             (then-more S S refl (get i .orientation) (h .0) (PlaceF get S) (PlaceF get′ S) (place-same get get′ S body) w (h .2))
 
-        last : (S : Forest) → (LastF get S → LastF get′ S) → LastF get (slot i C S) → LastF get′ (slot i C′ S)
+        last : (U : Forest) → (LastF get U → LastF get′ U) → LastF get (slot i C U) → LastF get′ (slot i C′ U)
         last empty f h = λ k. rw (stored k) (rw k at (st .place))
-        last (slot j B U) f h = f h
+        last (slot j B X) f h = f h
+
+    pub one-swapped : (q : Rectangle) → Was get i C q → Stands get′ n′ p v o i C′ (head S) q
+        → (get′ i .kind ≡ Container → get′ i .rect ≡ q) → ((j : ℕ) → In j new → In j (slots C′))
+        → ((j : ℕ) → In j (slots C) → Live get′ n′ j → In j (slots C′))
+        → Swap get get′ n n′ p v o (slot i C S) (slot i C′ S) × Fair get get′ (slot i C S) (slot i C′ S)
+    one-swapped q was st stored new-in stays = (one-swap q st new-in stays, one-fair q was st stored)
 
   -- TWO FOR ONE: where slot i stood alone, it stands before a new Free slot s, and their places make up the place that it had.
   module _ (s : ℕ) (new : List ℕ) (W : Taken get n n′ new) (C′ S : Forest) (r : Rep get n p v o (slot i empty S)) (D : Distinct (slots (slot i empty S)))
