@@ -55,7 +55,7 @@ module _ (get get′ : ℕ → Seen) where
       (last-replace K T T′ e (λ j m. h j (inr (in-right (slots C) (rim K) j m))) f g) l
 
 -- A slot below another has a parent.
-below-parent : (get : ℕ → Seen) (n a : ℕ) (v : Link) (o : Orientation) (C : Forest) → Rep get n (to a) v o C
+pub below-parent : (get : ℕ → Seen) (n a : ℕ) (v : Link) (o : Orientation) (C : Forest) → Rep get n (to a) v o C
     → (i : ℕ) → In i (slots C) → get i .parent ≡ none → ⊥
 below-parent get n a v o empty r i h e = h
 below-parent get n a v o (slot c B S) r i h e =

@@ -7,3 +7,4 @@ pub mod Stands
 pub mod Trades
 pub mod Merges
 pub mod Grants
+pub mod Stretches
