@@ -8,3 +8,4 @@ pub mod Trades
 pub mod Merges
 pub mod Grants
 pub mod Stretches
+pub mod Grows

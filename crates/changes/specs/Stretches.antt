@@ -100,7 +100,7 @@ pub record Grown (get : ℕ → Seen) (n root : ℕ) (r : Rectangle) : Type 0 wh
 
 -- The chain T, the last part of a top chain, is swapped for one that is longer by t.
 abbrev pub Lengthens : (ℕ → Seen) → (ℕ → Seen) → ℕ → ℕ → Rectangle → Forest → Type 0
-Lengthens get get′ n n′ t T = (p v : Link) (o : Orientation) → p ≡ none → Rep get n p v o T → Distinct (slots T)
+Lengthens get get′ n n′ t T = (p v : Link) (o : Orientation) → p ≡ none → Rep get n p v o T → Distinct (slots T) → (q : Rectangle) → PlaceF get T q
     → (T′ : Forest) × (i : ℕ) × In i (slots T′) × Swap get get′ n n′ p v o T T′
     × ((w : Rectangle) → PlaceF get T w → Adjoin o w t × PlaceF get′ T′ (join w t)) × LastF get′ T′
 
@@ -115,7 +115,7 @@ top-longer get get′ n n′ root i grow L r P lv pi t f =
     let D = rep-distinct get n none none (get root .orientation) (plug K T) (a .whole .along) 0 refl in
     let R = rep-fill get n K T none none (get root .orientation) (a .whole .along) in
     let top : parentAt K none ≡ none = sym (R .0 .parent) ∙ pi in
-    let s = f (a .below) (a .after) (parentAt K none) (prevAt K none) (orientationAt K (get root .orientation)) top R (distinct-fill K T D) in
+    let s = f (a .below) (a .after) (parentAt K none) (prevAt K none) (orientationAt K (get root .orientation)) top R (distinct-fill K T D) (a .place) (a .placed) in
     let longer : (w : Rectangle) → PlaceF get T w → Adjoin (get root .orientation) w t × PlaceF get′ (s .0) (join w t) =
     λ w h. let g = s .4 w h in (subst (λ (x : Orientation). Adjoin x w t) (top-orientation K top (get root .orientation)) (g .0), g .1) in
     let R′ = swap-represents get get′ n n′ root grow K T (s .0) (a .whole) (s .3) in
