@@ -26,7 +26,7 @@ use Rattle.changes.specs.Lasts.{forest-last}
 use Rattle.changes.specs.Swaps.{Elsewhere, Taken, none-taken, swap-represents, swap-others, swap-all}
 use Rattle.changes.specs.Stands.{cell, Stands, leaf-stands, leaf-was, leaf-bare, leaf-some}
 use Rattle.changes.specs.Trades.{one-swap}
-use Rattle.changes.specs.Stretches.{Grown, Lengthens, top-longer, place-once}
+use Rattle.changes.specs.Stretches.{free-box, Grown, Lengthens, top-longer, place-once}
 
 -- THE STEPS
 
@@ -40,10 +40,6 @@ pub record Append (get get′ : ℕ → Seen) (i s : ℕ) (t : Rectangle) : Type
   pub chosen : get′ i ≡ cell (get i .parent) (to s) (get i .prev) (get i .kind) (get i .orientation) (get i .rect)
   pub new : get′ s ≡ cell none none (to i) Free (get i .orientation) t
   pub other : (j : ℕ) → (In j (i ∷ s ∷ []) → ⊥) → get′ j ≡ get j
-
--- No slot is both Free and a Container.
-free-box : {k : NodeKind} {G : Type 0} → k ≡ Free → k ≡ Container → G
-free-box e q = absurd (let z : _≡_ {A = ℕ} 0 1 = cc in omega arith)
 
 module _ (get get′ : ℕ → Seen) (n root : ℕ) (L : Linked get n root) (all : Rectangle) (P : PlaceChain get n root all) where
   -- A lone Free root may get any rectangle.

@@ -9,3 +9,4 @@ pub mod Merges
 pub mod Grants
 pub mod Stretches
 pub mod Grows
+pub mod Roots

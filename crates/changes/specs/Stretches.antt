@@ -4,6 +4,7 @@ use Prim.Native.Nat.{ℕ, _≤_}
 use mathlib.Core.Path.{_≡_, refl, sym, _∙_, subst}
 use mathlib.Core.Logic.{inl, inr}
 use mathlib.Core.List.{_++_}
+use native.Mathlib.Omega.{arith}
 use Rattle.geometry.specs.Cuts.{flip}
 use Rattle.geometry.specs.declared.Orientation.{Orientation}
 use Rattle.geometry.specs.declared.Rectangle.{Rectangle}
@@ -91,6 +92,10 @@ last-top : (get : ℕ → Seen) (K : Gap) (T : Forest) (i : ℕ) → In i (slots
 last-top get here T i m top l = l
 last-top get (under a K S) T i m top l = absurd (deep-parent K a top)
 last-top get (past a C K) T i m top l = last-past get a C (plug K T) i (fill-in K T i m) (last-top get K T i m top l)
+
+-- No slot is both Free and a Container.
+pub free-box : {k : NodeKind} {G : Type 0} → k ≡ Free → k ≡ Container → G
+free-box e q = absurd (let z : _≡_ {A = ℕ} 0 1 = cc in omega arith)
 
 -- What growing keeps: rule 3, with the top chain's new place, and rule 7.
 pub record Grown (get : ℕ → Seen) (n root : ℕ) (r : Rectangle) : Type 0 where
