@@ -18,10 +18,11 @@ use Rattle.forest.specs.Flips.{flip-flip}
 use Rattle.forest.specs.Pigeon.{In, Distinct}
 use Rattle.forest.specs.Forest.{Forest, empty, slot, head, slots, Bare, Full, Shape, Here, Rep, Represents, in-slot, in-left, in-right, in-children, in-after, rep-distinct}
 
-to-inj : {i j : ℕ} → to i ≡ to j → i ≡ j
+-- Links to slots are the same where the slots are, and no slot is none.
+pub to-inj : {i j : ℕ} → to i ≡ to j → i ≡ j
 to-inj p = cc
 
-no-link : {i : ℕ} → none ≡ to i → ⊥
+pub no-link : {i : ℕ} → none ≡ to i → ⊥
 no-link p = let z : _≡_ {A = ℕ} 0 1 = cc in omega arith
 
 pub by-place : {G : Type 0} (j i : ℕ) (C S : Forest) → (j ≡ i → G) → (In j (slots C) → G) → (In j (slots S) → G)
@@ -41,7 +42,8 @@ distinct-apart [] ys d a l r = l
 distinct-apart (x ∷ xs) ys d a l r =
     ⊎-elim (λ e. d .0 (in-right xs ys x (rw (← e) r))) (λ m. distinct-apart xs ys (d .1) a m r) l
 
-shape-live : (k : NodeKind) (C : Forest) → Shape k C → inUse k ≡ true
+-- A slot of the forest is in use.
+pub shape-live : (k : NodeKind) (C : Forest) → Shape k C → inUse k ≡ true
 shape-live Container C h = refl
 shape-live Alloc C h = refl
 shape-live Free C h = refl

@@ -22,7 +22,7 @@ use Rattle.forest.specs.Place.{SlotAt, Then, PlaceF}
 use Rattle.forest.specs.Tree.{Tree, before, treeOf, Fits, total, fits-measured}
 
 -- The join of two that are not empty is not.
-join-not-empty : (o : Orientation) (q s : Rectangle) → Adjoin o q s → NotEmpty q → NotEmpty s → NotEmpty (join q s)
+pub join-not-empty : (o : Orientation) (q s : Rectangle) → Adjoin o q s → NotEmpty q → NotEmpty s → NotEmpty (join q s)
 join-not-empty Vertical q s h x y = (omega arith, omega arith)
 join-not-empty Horizontal q s h x y = (omega arith, omega arith)
 
@@ -125,7 +125,7 @@ module _ (get : ℕ → Seen) (n : ℕ) where
       fits-measured μ adds (treeOf get F) o _ _ _ _ (place-fits p v o F R _ _ _ _ (rw e at h)) ∙ ap μ (sym e)
 
   -- What hangs below a slot has a place.
-  below-placed : (k : NodeKind) (C : Forest) (mine q : Rectangle) (i : ℕ) → Shape k C → In i (slots C) → SlotAt k mine (PlaceF get C) q → PlaceF get C q
+  pub below-placed : (k : NodeKind) (C : Forest) (mine q : Rectangle) (i : ℕ) → Shape k C → In i (slots C) → SlotAt k mine (PlaceF get C) q → PlaceF get C q
   below-placed Container C mine q i sh m h = h
   below-placed Alloc empty mine q i sh m h = absurd m
   below-placed Alloc (slot j B T) mine q i sh m h = absurd sh
@@ -134,7 +134,7 @@ module _ (get : ℕ → Seen) (n : ℕ) where
   below-placed Unused C mine q i sh m h = absurd h
 
   -- So has what comes after it.
-  after-placed : (T : Forest) (o : Orientation) (q r : Rectangle) (i : ℕ) → In i (slots T) → Then T o q (PlaceF get T) r
+  pub after-placed : (T : Forest) (o : Orientation) (q r : Rectangle) (i : ℕ) → In i (slots T) → Then T o q (PlaceF get T) r
       → (s : Rectangle) × PlaceF get T s
   after-placed empty o q r i m h = absurd m
   after-placed (slot j B U) o q r i m h = (h .0, h .1)

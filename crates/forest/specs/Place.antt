@@ -70,6 +70,12 @@ module _ (get : ℕ → Seen) (n : ℕ) where
       after empty q s x rec me = rw x (last q me)
       after (slot j B U) q s x rec me = rw (x .3) (more q me (rec j refl (x .0) (x .1)) (x .2))
 
+  -- The forest's place of one slot is the rule's.
+  pub slot-table-place : (p v : Link) (o : Orientation) (a : ℕ) (C S : Forest) → Rep get n p v o (slot a C S)
+      → (q : Rectangle) → SlotAt (get a .kind) (get a .rect) (PlaceF get C) q → PlaceSlot get n a q
+  slot-table-place p v o a C S r q h =
+      slot-table a (flip o) C (r .1) (λ j e t x. place-table (to a) none (flip o) C (r .1) j e t x) (get a .kind) refl q h
+
   -- The other way: the rule's place of a slot or a chain, taken apart.
   abbrev SlotParts : ℕ → Rectangle → Type 0
   SlotParts i r = (Leaf (get i .kind) × NotEmpty (get i .rect) × (r ≡ get i .rect))
@@ -135,3 +141,9 @@ module _ (get : ℕ → Seen) (n : ℕ) where
           me (x .1) (x .4),
           (x .2, rec j refl (x .2) (rw (to-inj (sym nx ∙ x .3)) (x .5)), x .6, x .7),
         )
+
+    -- The rule's place of one slot is the forest's.
+    pub table-slot-place : (p v : Link) (o : Orientation) (a : ℕ) (C S : Forest) → Rep get n p v o (slot a C S)
+        → (q : Rectangle) → PlaceSlot get n a q → SlotAt (get a .kind) (get a .rect) (PlaceF get C) q
+    table-slot-place p v o a C S r q x =
+        table-slot a (flip o) C (r .1) (λ j e t y. table-place (to a) none (flip o) C (r .1) j e t y) (r .0 .shape) q (slot-parts x)

@@ -1,0 +1,12 @@
+pub mod Gaps
+pub mod Frame
+pub mod Lasts
+pub mod Swaps
+pub mod Joins
+pub mod Stands
+pub mod Trades
+pub mod Merges
+pub mod Grants
+pub mod Stretches
+pub mod Grows
+pub mod Roots
