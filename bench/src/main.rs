@@ -10,30 +10,31 @@ use std::hint::black_box;
 use std::process::{Command, Stdio};
 use std::time::Instant;
 
-const SAMPLES: usize = 401;
+const SAMPLES: usize = 1_001;
 
-/// The median time of a call in nanoseconds, over samples of some calls each.
-fn median(calls: usize, mut call: impl FnMut()) -> f64 {
-    let mut times: Vec<f64> = (0..SAMPLES)
+/// The median time of one call in nanoseconds. Each is timed by itself, so that a call during which the machine turned to
+/// something else is one long sample and no more.
+fn median(mut call: impl FnMut()) -> f64 {
+    let mut times: Vec<u128> = (0..SAMPLES)
         .map(|_| {
             let begun = Instant::now();
-            (0..calls).for_each(|_| call());
-            begun.elapsed().as_nanos() as f64 / calls as f64
+            call();
+            begun.elapsed().as_nanos()
         })
         .collect();
-    times.sort_by(f64::total_cmp);
-    times[SAMPLES / 2]
+    times.sort_unstable();
+    times[SAMPLES / 2] as f64
 }
 
 fn time_check(tables: &Tables) -> f64 {
     assert_eq!(check(tables), 0);
-    median(20, || assert_eq!(check(black_box(tables)), 0))
+    median(|| assert_eq!(check(black_box(tables)), 0))
 }
 
 /// One copy of the five tables into others of the same lengths.
 fn time_copy(tables: &Tables) -> f64 {
     let mut to = tables.clone();
-    median(50, || {
+    median(|| {
         let from = black_box(tables);
         to.words.copy_from_slice(&from.words);
         to.generations.copy_from_slice(&from.generations);
@@ -56,7 +57,8 @@ const NAMES: [&str; 3] = ["wide chain", "random mix", "deepest nesting"];
 
 fn describe(name: &str, tables: &Tables) {
     let of = |kind| tables.live().iter().filter(|&&slot| tables.kind(slot) == kind).count();
-    let bytes = 4 * tables.words.len() + tables.generations.len() + 4 * tables.lists.iter().map(Vec::len).sum::<usize>();
+    let bytes =
+        4 * tables.words.len() + tables.generations.len() + 4 * tables.lists.iter().map(Vec::len).sum::<usize>();
     println!(
         "{name}, {} slots: {} Container, {} Alloc, {} Free, lists {:?}, {bytes} bytes",
         tables.room(),

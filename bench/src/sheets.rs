@@ -65,7 +65,7 @@ fn cuts(from: u32, to: u32, members: u32, stream: &mut Stream) -> Vec<u32> {
     ends
 }
 
-/// A tree drawn at random: chains of up to 8 members, a tenth of the slots spare, the numbers in no order, the lists full.
+/// A tree drawn at random: chains of up to 8 members, a tenth of the slots or more spare, the numbers in no order, the lists full.
 pub fn mixed(slots: u32, seed: u64) -> Tables {
     let mut stream = Stream::new(seed);
     let mut numbers: Vec<u32> = (0..slots).collect();
@@ -75,8 +75,14 @@ pub fn mixed(slots: u32, seed: u64) -> Tables {
     let spares = numbers.split_off((slots - slots / 10) as usize);
     let mut tables = Tables::zero(slots as usize, slots as usize);
     let options = Options { align_width: 1, align_height: 1, small: 64, large: 2048 };
-    tables.head = Head { width: 65_536, height: 65_536, options, root: NONE, spare: NONE, count: slots, lengths: [0; 3] };
-    let top = Chain { parent: NONE, orientation: Orientation::Vertical, place: rect(0, 0, 65_536, 65_536), budget: numbers.len() as u32 };
+    tables.head =
+        Head { width: 65_536, height: 65_536, options, root: NONE, spare: NONE, count: slots, lengths: [0; 3] };
+    let top = Chain {
+        parent: NONE,
+        orientation: Orientation::Vertical,
+        place: rect(0, 0, 65_536, 65_536),
+        budget: numbers.len() as u32,
+    };
     let mut waiting = vec![top];
     while let Some(chain) = waiting.pop() {
         lay_out(&mut tables, chain, &mut numbers, &mut waiting, &mut stream);
@@ -84,7 +90,14 @@ pub fn mixed(slots: u32, seed: u64) -> Tables {
     for &slot in spares.iter().chain(&numbers) {
         let next = tables.head.spare;
         let rect = rect(stream.word(), stream.word(), stream.word(), stream.word());
-        let slot_of = Slot { parent: stream.word(), next, prev: stream.word(), kind: Kind::Unused, orientation: Orientation::Vertical, rect };
+        let slot_of = Slot {
+            parent: stream.word(),
+            next,
+            prev: stream.word(),
+            kind: Kind::Unused,
+            orientation: Orientation::Vertical,
+            rect,
+        };
         tables.put(slot, slot_of);
         tables.head.spare = slot;
     }
@@ -125,7 +138,7 @@ fn lay_out(tables: &mut Tables, chain: Chain, numbers: &mut Vec<u32>, waiting: &
     }
 }
 
-/// Each Container but the last the only child of the one before it, one Alloc at the bottom.
+/// Containers, each the only child of the one before it, and one Alloc at the bottom.
 pub fn deep(slots: u32) -> Tables {
     nested(slots)
 }
