@@ -10,3 +10,4 @@ pub mod Grants
 pub mod Stretches
 pub mod Grows
 pub mod Roots
+pub mod Tidy
