@@ -81,11 +81,14 @@ module _ (s : State) (L : LentOf s) where
         pub audit-tree-ready : TreeReady (s .words) (listsOf s) (s .head .count) (s .head .count - u)
         audit-tree-ready =
             record {
-              table = numbers-table s L N;
-              within = counted .within;
-              small = counted .entries Small;
-              medium = counted .entries Medium;
-              large = counted .entries Large;
+              lists =
+                  record {
+                    table = numbers-table s L N;
+                    within = counted .within;
+                    small = counted .entries Small;
+                    medium = counted .entries Medium;
+                    large = counted .entries Large;
+                  };
               count = ap (λ k. s .head .count - k) isU;
             }
 

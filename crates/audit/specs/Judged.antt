@@ -30,11 +30,14 @@ use Rattle.audit.specs.declared.Verdict.{Verdict}
 abbrev pub brokenAt : ℕ → ℕ → ℕ → Verdict
 brokenAt rule bad n = verdict rule (pick (ltb bad n) bad 0)
 
--- The marks of the three lists.
-unfoldable pub marksOf : List ℕ → Setup → Lists → List ℕ
-marksOf w u l =
+-- The marks of the three lists, over marks that stand already, and over none.
+unfoldable pub marksFrom : List ℕ → Setup → Lists → List ℕ → List ℕ
+marksFrom w u l ms =
     marksTo w (u .small) (u .large) Large (l .large .table) (l .large .len)
-    (marksTo w (u .small) (u .large) Medium (l .medium .table) (l .medium .len) (marksTo w (u .small) (u .large) Small (l .small .table) (l .small .len) (replicate 4096 0)))
+    (marksTo w (u .small) (u .large) Medium (l .medium .table) (l .medium .len) (marksTo w (u .small) (u .large) Small (l .small .table) (l .small .len) ms))
+
+unfoldable pub marksOf : List ℕ → Setup → Lists → List ℕ
+marksOf w u l = marksFrom w u l (replicate 4096 0)
 
 -- A walk that came to its end with nothing of the count left, and one that fits together and fills a rectangle.
 unfoldable pub isWhole : Placed → Bool
@@ -83,13 +86,17 @@ pub data Judged (w fs ms : List ℕ) (n root : ℕ) (sheet : Rectangle) : ℕ �
   rule7 : Linked (seen w) n root → Merged (seen w) n → PlaceChain (seen w) n root sheet → AllMarked w ms n → (LastTrue (seen w) n → ⊥)
       → Judged w fs ms n root sheet 7 (lowestBad (notLastAt w n) n)
 
--- What making the tables asks: entries within their lists, all below n.
-pub record TreeReady (w : List ℕ) (l : Lists) (n live : ℕ) : Type 0 where
+-- What making the marks asks: entries within their lists, all below n.
+pub record ListsReady (w : List ℕ) (l : Lists) (n : ℕ) : Type 0 where
   pub table : Table w n
   pub within : Within l
   pub small : Each (λ x. x < n) (l .small)
   pub medium : Each (λ x. x < n) (l .medium)
   pub large : Each (λ x. x < n) (l .large)
+
+-- What making the tables asks: that, and the number of live slots.
+pub record TreeReady (w : List ℕ) (l : Lists) (n live : ℕ) : Type 0 where
+  pub lists : ListsReady w l n
   pub count : live ≡ n - unusedBelow w n
 
 -- What the scan of the entries asks: the lengths are within the tables, which have 16,384 places at most.

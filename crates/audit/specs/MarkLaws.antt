@@ -28,7 +28,7 @@ use Rattle.sound.specs.Sound.{HasEntry, ownBucket, Listed}
 use Rattle.links.specs.TestLaws.{Says, where-says, kind-says}
 use Rattle.audit.specs.Tests.{sameBucket, marksFor, marked, marksTo, listedAt}
 use Rattle.audit.specs.Audited.{hasEntry}
-use Rattle.audit.specs.Judged.{marksOf}
+use Rattle.audit.specs.Judged.{marksFrom, marksOf}
 
 -- One more entry.
 pub marks-more : (w : List ℕ) (small large : ℕ) (b : Bucket) (t ms ns : List ℕ) (k : ℕ) (x : ℕ) (us : List ℕ)
@@ -99,11 +99,9 @@ occurs-says t x (suc k) = go (eqb (getD t k 0) x) refl (occurs-says t x k)
 
 -- A Free slot is marked by its own bucket's list, and by no other.
 own-mark : (w : List ℕ) (u : Setup) (l : Lists) (start : List ℕ) (x : ℕ) → x < length start → getD start x 0 ≡ 0 → freeEntry w x ≡ true
-    → isMarked
-    (marksTo w (u .small) (u .large) Large (l .large .table) (l .large .len)
-    (marksTo w (u .small) (u .large) Medium (l .medium .table) (l .medium .len) (marksTo w (u .small) (u .large) Small (l .small .table) (l .small .len) start)))
-    x
+    → isMarked (marksFrom w u l start) x
     ≡ (let b = listOf (bucketOf (u .small) (u .large) (widthOf (nodeAt w (slot x) .rect)) (heightOf (nodeAt w (slot x) .rect))) l in occurs (b .table) x (b .len))
+unfolding marksFrom
 own-mark w u l start x h z f =
     let one = marksTo w (u .small) (u .large) Small (l .small .table) (l .small .len) start in
     let two = marksTo w (u .small) (u .large) Medium (l .medium .table) (l .medium .len) one in

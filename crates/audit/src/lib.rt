@@ -1,6 +1,7 @@
 // The check of the tables: the lowest-numbered rule of soundness that is broken, and where.
 use geometry::Bucket;
 use geometry::Rectangle;
+use geometry::Setup;
 use lists::Lengths;
 use places::Placed;
 use slots::AllocIndex;
@@ -22,7 +23,7 @@ ghost use Rattle.starts.specs.Lent.{Lent};
 ghost use Rattle.links.specs.TestLaws.{Says};
 ghost use Rattle.audit.specs.LastLaws.{LastHolds};
 ghost use Rattle.audit.specs.Audited.{numbersHold, entryFound, entriesFound, firstsOf, Audited, Checked};
-ghost use Rattle.audit.specs.Judged.{brokenAt, isWhole, isFilled, marksOf, Prepared, Walked, LastReady, Judged, EntriesReady, TreeReady};
+ghost use Rattle.audit.specs.Judged.{brokenAt, isWhole, isFilled, marksFrom, marksOf, ListsReady, Prepared, Walked, LastReady, Judged, EntriesReady, TreeReady};
 ghost use Rattle.audit.specs.Tests.{sameRect, filledAt, listedAt, notLastAt, holdsAt, firstFrom, marked, marksTo, entryBelow};
 
 // What the check found: the lowest-numbered rule that is broken, 0 for none, and the lowest place that breaks it, 0 where no single place does.
@@ -234,6 +235,55 @@ fn mark_list(
     }
 }
 
+// Marks every Free slot that has an entry in its own bucket's list.
+fn mark_lists(
+    words: &[u32],
+    marks: &mut [u8],
+    setup: Setup,
+    small: &[u32],
+    medium: &[u32],
+    large: &[u32],
+    lengths: Lengths,
+    n: u32,
+)
+    requires { ⌜ ListsReady (now words) (lists lengths (now small) (now medium) (now large)) n × (n ≤ length (now marks)) ⌝ }
+    ensures { λ _. ⌜ now (marks .exit)
+        ≡ marksFrom (now (words .entry)) setup (lists lengths (now (small .entry)) (now (medium .entry)) (now (large .entry))) (now (marks .entry)) ⌝ }
+{
+    let low = setup.small;
+    let high = setup.large;
+    mark_list(
+        words,
+        marks,
+        low,
+        high,
+        Bucket::Small,
+        small,
+        lengths.small,
+        n,
+    );
+    mark_list(
+        words,
+        marks,
+        low,
+        high,
+        Bucket::Medium,
+        medium,
+        lengths.medium,
+        n,
+    );
+    mark_list(
+        words,
+        marks,
+        low,
+        high,
+        Bucket::Large,
+        large,
+        lengths.large,
+        n,
+    );
+}
+
 // Whether a walk from the root came to its end with nothing of the count left.
 fn is_whole(p: Placed) -> bool
     ensures { λ b. ⌜ b ≡ isWhole p ⌝ }
@@ -356,36 +406,7 @@ fn audit_tree(
     let mut firsts = [4294967295u32; 4096];
     let mut marks = [0u8; 4096];
     links::enter_firsts(words, &mut firsts, n);
-    mark_list(
-        words,
-        &mut marks,
-        setup.small,
-        setup.large,
-        Bucket::Small,
-        small,
-        lengths.small,
-        n,
-    );
-    mark_list(
-        words,
-        &mut marks,
-        setup.small,
-        setup.large,
-        Bucket::Medium,
-        medium,
-        lengths.medium,
-        n,
-    );
-    mark_list(
-        words,
-        &mut marks,
-        setup.small,
-        setup.large,
-        Bucket::Large,
-        large,
-        lengths.large,
-        n,
-    );
+    mark_lists(words, &mut marks, setup, small, medium, large, lengths, n);
     let top = n as usize;
     audit_marked(words, &firsts[..top], &marks, n, head.root, live, sheet)
 }
