@@ -2,7 +2,7 @@
 -- Assumes nothing.
 use Prim.Native.Nat.{ℕ, _<_}
 use mathlib.Core.Path.{_≡_, refl, sym, _∙_, ap}
-use mathlib.Core.Bool.{Bool, true, false, false≢true}
+use mathlib.Core.Bool.{true}
 use mathlib.Core.Logic.{_⊎_, inl, inr, ⊎-elim}
 use mathlib.Core.List.{List, [], _∷_}
 use native.Mathlib.Omega.{arith}
@@ -18,7 +18,7 @@ use Rattle.forest.specs.Back.{to-inj, no-link}
 use Rattle.changes.specs.Swaps.{Taken}
 use Rattle.changes.specs.Stretches.{free-box}
 use Rattle.changes.specs.Grows.{Stretch, Append}
-use Rattle.changes.specs.Roots.{NewRoot}
+use Rattle.changes.specs.Roots.{NewRoot, root-moves, root-live}
 use Rattle.changes.specs.Tidy.{Alike, same-alike, Fine, CutUp, cut-merged}
 
 -- Stretching a Free slot keeps rule 4: nothing changes that it reads.
@@ -63,21 +63,9 @@ pub root-merged : (get get′ : ℕ → Seen) (n n′ root a b : ℕ) (o : Orien
 root-merged get get′ n n′ root a b o z t L W op some M = record { apart = apart; sibling = sibling }
   where
     moved : (u : ℕ) → Live get n u → Moved (get u) (get′ u)
-    moved u l = go (get u .parent) refl
-      where
-        go : (p : Link) → get u .parent ≡ p → Moved (get u) (get′ u)
-        go none e = rw (op .top u l e) (record { kind = refl; next = refl; prev = refl; parent = inr e })
-        go (to k) e =
-            rw (op .other u (λ w. W .idle u w l) (λ x q. no-link (sym q ∙ e))) (record { kind = refl; next = refl; prev = refl; parent = inl refl })
-
-    was-live : (u : ℕ) → (In u (a ∷ b ∷ []) → ⊥) → Live get′ n′ u → Live get n u
-    was-live u m l = go (inUse (get u .kind)) refl
-      where
-        go : (k : Bool) → inUse (get u .kind) ≡ k → Live get n u
-        go true e = (W .counted u (l .0) m, e)
-        go false e =
-            let same : get′ u ≡ get u = op .other u m (λ x q. false≢true (sym e ∙ x .1)) in
-            absurd (false≢true (sym e ∙ (ap (λ x. inUse (x .kind)) (sym same) ∙ l .1)))
+    moved u l =
+        ⊎-elim {C = Moved (get u) (get′ u)} (λ h. rw (h .1) (record { kind = refl; next = refl; prev = refl; parent = inr (h .0) }))
+        (λ h. rw h (record { kind = refl; next = refl; prev = refl; parent = inl refl })) (root-moves get get′ n n′ a b o z t W op u l)
 
     -- Neither new slot is Free with a next or a parent.
     new : (u k : ℕ) → In u (a ∷ b ∷ []) → get′ u .kind ≡ Free → (get′ u .next ≡ to k) ⊎ (get′ u .parent ≡ to k) → ⊥
@@ -93,7 +81,7 @@ root-merged get get′ n n′ root a b o z t L W op some M = record { apart = ap
         go : Dec (In u (a ∷ b ∷ [])) → ⊥
         go (yes m) = new u v m f (inl e)
         go (no m) =
-            let lu = was-live u m l in
+            let lu = root-live get get′ n n′ a b o z t W op u m l in
             let w = moved u lu in
             let x = sym (w .next) ∙ e in
             M .apart u v lu x (sym (w .kind) ∙ f) (sym (moved v (L .next-live u v lu x) .kind) ∙ g)
@@ -104,7 +92,7 @@ root-merged get get′ n n′ root a b o z t L W op some M = record { apart = ap
         go : Dec (In u (a ∷ b ∷ [])) → ⊥
         go (yes m) = new u p m f (inr q)
         go (no m) =
-            let lu = was-live u m l in
+            let lu = root-live get get′ n n′ a b o z t W op u m l in
             let w = moved u lu in
             let k = sym (w .kind) ∙ f in
             let x = sym (w .next) ∙ e in
