@@ -13,3 +13,4 @@ pub mod Roots
 pub mod Tidy
 pub mod Climbs
 pub mod TidyGrows
+pub mod Pieces
