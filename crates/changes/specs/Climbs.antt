@@ -1,19 +1,16 @@
 -- Rule 4 and deallocate's climb: all along it the rule holds but at the slot that the climb stands at, and where that slot has
 -- no Free neighbour, and a sibling or no parent, it holds there too.
 -- Assumes nothing.
-use Prim.Native.Nat.{ℕ, _<_}
-use mathlib.Core.Path.{_≡_, refl, sym, _∙_, ap}
-use mathlib.Core.Bool.{true}
-use mathlib.Core.Logic.{_⊎_, inl, inr, ⊎-elim}
-use mathlib.Core.List.{List, [], _∷_}
+use Prim.Native.Nat.{ℕ}
+use mathlib.Core.Path.{_≡_, sym, _∙_, ap}
+use mathlib.Core.Logic.{_⊎_, ⊎-elim}
 use native.Mathlib.Omega.{arith}
 use native.Mathlib.Decide.{ℕ-discrete}
 use Rattle.slots.specs.declared.NodeKind.{NodeKind}
-use Rattle.slots.specs.declared.NodeKind.the-variants.{Container, Alloc, Free, Unused}
-use Rattle.sound.specs.View.{Link, none, to, Seen, Live, inUse}
+use Rattle.slots.specs.declared.NodeKind.the-variants.{Free, Unused}
+use Rattle.sound.specs.View.{none, to, Seen, Live}
 use Rattle.sound.specs.Rules.{it, later}
 use Rattle.sound.specs.Sound.{Linked, Merged}
-use Rattle.forest.specs.Pigeon.{In}
 use Rattle.forest.specs.Spare.{chain-visits-once}
 use Rattle.changes.specs.Merges.{Rekind, Absorb, GiveUp}
 use Rattle.changes.specs.Tidy.{Alike, same-alike, elsewhere-alike}

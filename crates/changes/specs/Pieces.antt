@@ -1,9 +1,9 @@
 -- What the calls read of a table, and that the pieces of a cut are parts of the whole.
 -- Assumes nothing.
-use Prim.Native.Nat.{ℕ, _+_, _-_, _≤_, _<_}
-use mathlib.Core.Path.{_≡_, refl, sym, _∙_, ap}
+use Prim.Native.Nat.{ℕ, _+_, _≤_, _<_}
+use mathlib.Core.Path.{_≡_, refl, sym, _∙_}
 use mathlib.Core.Bool.{true, false}
-use mathlib.Core.Logic.{_⊎_, inl, inr}
+use mathlib.Core.Logic.{inr}
 use native.Mathlib.Omega.{arith}
 use borrow.Author.Tests.{leb-true, leb-false}
 use Rattle.geometry.specs.Cuts.{flip, emptyRect, FitsIn, atCorner, splitOf, leftoverOf, widthOf, heightOf}
@@ -20,12 +20,12 @@ use Rattle.sound.specs.Sound.{Linked}
 use Rattle.forest.specs.Forest.{Forest, empty, slot, head, Rep, Represents}
 use Rattle.forest.specs.Bridge.{forest}
 use Rattle.forest.specs.Back.{to-inj, no-link}
-use Rattle.forest.specs.Place.{Then, PlaceF}
+use Rattle.forest.specs.Place.{PlaceF}
 use Rattle.forest.specs.Fill.{place-not-empty}
 use Rattle.changes.specs.Gaps.{rep-fill}
 use Rattle.changes.specs.Joins.{Parts}
 use Rattle.changes.specs.Frame.{placed-chain}
-use Rattle.changes.specs.Swaps.{At, at-slot}
+use Rattle.changes.specs.Swaps.{at-slot}
 use Rattle.changes.specs.Stands.{leaf-was, leaf-bare, leaf-some, leaves-adjoin}
 
 -- THE CUT. Request and leftover make up one part, the split the other, whichever way the cut goes.

@@ -1,7 +1,7 @@
 -- Grow's step across the root's orientation: the whole top chain goes under a new root, a Container, with a Free slot after
 -- it. Rules 3 and 7 are kept, and the top chain's new place is the join.
 -- Assumes nothing.
-use Prim.Native.Nat.{ℕ, _≤_}
+use Prim.Native.Nat.{ℕ}
 use mathlib.Core.Path.{_≡_, refl, sym, _∙_, ap}
 use mathlib.Core.Bool.{Bool, true, false, false≢true}
 use mathlib.Core.Logic.{_⊎_, inl, inr, ⊎-elim}
@@ -19,7 +19,6 @@ use Rattle.forest.specs.Pigeon.{In, In-dec}
 use Rattle.forest.specs.Forest.{Forest, empty, slot, head, slots, Full, Rep, Represents, in-children, in-after}
 use Rattle.forest.specs.Bridge.{forest}
 use Rattle.forest.specs.Back.{no-link, shape-live, in-live, linked}
-use Rattle.forest.specs.Place.{PlaceF}
 use Rattle.changes.specs.Frame.{SameBody, same-body, rep-same, place-same, held-represents, chain-placed, placed-chain}
 use Rattle.changes.specs.Lasts.{below-parent, forest-last}
 use Rattle.changes.specs.Swaps.{Taken}

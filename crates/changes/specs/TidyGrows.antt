@@ -1,25 +1,22 @@
 -- Rule 4 and grow.
 -- Assumes nothing.
-use Prim.Native.Nat.{ℕ, _<_}
+use Prim.Native.Nat.{ℕ}
 use mathlib.Core.Path.{_≡_, refl, sym, _∙_, ap}
-use mathlib.Core.Bool.{true}
 use mathlib.Core.Logic.{_⊎_, inl, inr, ⊎-elim}
-use mathlib.Core.List.{List, [], _∷_}
-use native.Mathlib.Omega.{arith}
+use mathlib.Core.List.{[], _∷_}
 use native.Mathlib.Decide.{ℕ-discrete}
 use Rattle.geometry.specs.declared.Orientation.{Orientation}
 use Rattle.geometry.specs.declared.Rectangle.{Rectangle}
-use Rattle.slots.specs.declared.NodeKind.{NodeKind}
-use Rattle.slots.specs.declared.NodeKind.the-variants.{Container, Free}
-use Rattle.sound.specs.View.{Link, none, to, Seen, Live, inUse}
+use Rattle.slots.specs.declared.NodeKind.the-variants.{Free}
+use Rattle.sound.specs.View.{none, to, Seen, Live, inUse}
 use Rattle.sound.specs.Sound.{Linked, Merged}
 use Rattle.forest.specs.Pigeon.{In, In-dec}
-use Rattle.forest.specs.Back.{to-inj, no-link}
+use Rattle.forest.specs.Back.{no-link}
 use Rattle.changes.specs.Swaps.{Taken}
 use Rattle.changes.specs.Stretches.{free-box}
 use Rattle.changes.specs.Grows.{Stretch, Append}
 use Rattle.changes.specs.Roots.{NewRoot, root-moves, root-live}
-use Rattle.changes.specs.Tidy.{Alike, same-alike, Fine, CutUp, cut-merged}
+use Rattle.changes.specs.Tidy.{Alike, same-alike, Fine, cut-merged}
 
 -- Stretching a Free slot keeps rule 4: nothing changes that it reads.
 pub stretch-merged : (get get′ : ℕ → Seen) (n i : ℕ) (q : Rectangle) → Stretch get get′ i q → get i .kind ≡ Free → Merged get n → Merged get′ n
