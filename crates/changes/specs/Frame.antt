@@ -1,10 +1,9 @@
 -- THE FRAME: where one part of a represented forest is replaced by another that starts at the same slot, and nothing round
 -- the gap changed, the table after is a forest again, of the same place.
 -- Assumes nothing.
-use Prim.Native.Nat.{ℕ, _≤_, _<_}
-use mathlib.Core.Path.{_≡_, refl, sym, _∙_, ap}
+use Prim.Native.Nat.{ℕ, _≤_}
+use mathlib.Core.Path.{_≡_, refl, sym, _∙_}
 use mathlib.Core.Logic.{_⊎_, inl, inr, ⊎-elim}
-use mathlib.Core.List.{_++_}
 use native.Mathlib.Omega.{arith}
 use Rattle.geometry.specs.Cuts.{flip}
 use Rattle.geometry.specs.declared.Orientation.{Orientation}
@@ -13,7 +12,7 @@ use Rattle.slots.specs.declared.NodeKind.{NodeKind}
 use Rattle.slots.specs.declared.NodeKind.the-variants.{Container, Alloc, Free, Unused}
 use Rattle.sound.specs.View.{Link, none, to, Seen, Live}
 use Rattle.sound.specs.Rules.{PlaceChain}
-use Rattle.forest.specs.Pigeon.{In, Distinct}
+use Rattle.forest.specs.Pigeon.{In}
 use Rattle.forest.specs.Forest.{Forest, empty, slot, head, slots, Shape, Here, Rep, Represents, in-left, in-right, in-children, in-after}
 use Rattle.forest.specs.Back.{to-inj, no-link, linked}
 use Rattle.forest.specs.Place.{SlotAt, Then, PlaceF, place-table, table-place}

@@ -3,20 +3,20 @@
 -- a Container over the two. Each keeps rules 3, 5 and 7.
 -- Assumes nothing.
 use Prim.Native.Nat.{ℕ, _≤_, _<_}
-use mathlib.Core.Path.{_≡_, refl, sym, _∙_, ap}
-use mathlib.Core.Logic.{_⊎_, inl, inr, ⊎-elim}
+use mathlib.Core.Path.{_≡_, refl, _∙_, ap}
+use mathlib.Core.Logic.{_⊎_, inl, inr}
 use mathlib.Core.List.{List, [], _∷_}
 use native.Mathlib.Omega.{arith}
 use Rattle.geometry.specs.Cuts.{flip}
 use Rattle.geometry.specs.declared.Orientation.{Orientation}
 use Rattle.geometry.specs.declared.Rectangle.{Rectangle}
 use Rattle.slots.specs.declared.NodeKind.the-variants.{Container, Alloc, Free}
-use Rattle.sound.specs.View.{Link, none, to, Seen, Live}
+use Rattle.sound.specs.View.{none, to, Seen, Live}
 use Rattle.sound.specs.Rules.{NotEmpty, Adjoin, join, PlaceChain}
 use Rattle.sound.specs.Sound.{Linked}
 use Rattle.forest.specs.Flips.{flip-flip}
 use Rattle.forest.specs.Pigeon.{In}
-use Rattle.forest.specs.Forest.{Forest, empty, slot, head, slots, Rep}
+use Rattle.forest.specs.Forest.{Forest, empty, slot, slots}
 use Rattle.changes.specs.Joins.{Parts}
 use Rattle.changes.specs.Swaps.{Elsewhere, Taken, Swaps, Kept}
 use Rattle.changes.specs.Stands.{cell, Stands, leaf-stands, box-stands, leaf-was, leaf-step-keeps}

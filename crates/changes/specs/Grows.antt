@@ -1,10 +1,10 @@
 -- Grow's steps along the root's orientation: a lone Free root is stretched, or the last slot of the top chain is, if it is
 -- Free, or a Free slot is appended after it. Each keeps rules 3 and 7, and the top chain gets its new place.
 -- Assumes nothing.
-use Prim.Native.Nat.{ℕ, _<_}
+use Prim.Native.Nat.{ℕ}
 use mathlib.Core.Path.{_≡_, refl, sym, _∙_, ap}
-use mathlib.Core.Logic.{_⊎_, inl, inr, ⊎-elim}
-use mathlib.Core.List.{[], _∷_, _++_}
+use mathlib.Core.Logic.{inl, inr, ⊎-elim}
+use mathlib.Core.List.{[], _∷_}
 use native.Mathlib.Omega.{arith}
 use Rattle.geometry.specs.Cuts.{flip}
 use Rattle.geometry.specs.declared.Orientation.{Orientation}
@@ -14,7 +14,7 @@ use Rattle.slots.specs.declared.NodeKind.the-variants.{Container, Alloc, Free, 
 use Rattle.sound.specs.View.{Link, none, to, Seen, Live}
 use Rattle.sound.specs.Rules.{NotEmpty, Adjoin, join, PlaceChain}
 use Rattle.sound.specs.Sound.{Linked, LastTrue}
-use Rattle.forest.specs.Pigeon.{In, Distinct}
+use Rattle.forest.specs.Pigeon.{In}
 use Rattle.forest.specs.Forest.{Forest, empty, slot, slots, Rep, Represents, in-left, in-children, in-after}
 use Rattle.forest.specs.Bridge.{forest}
 use Rattle.forest.specs.Back.{to-inj, no-link, by-place, in-live, linked}

@@ -11,3 +11,6 @@ pub mod Stretches
 pub mod Grows
 pub mod Roots
 pub mod Tidy
+pub mod Climbs
+pub mod TidyGrows
+pub mod Pieces

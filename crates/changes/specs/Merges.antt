@@ -3,24 +3,22 @@
 -- Assumes nothing.
 use Prim.Native.Nat.{ℕ}
 use mathlib.Core.Path.{_≡_, refl, sym, _∙_, ap}
-use mathlib.Core.Bool.{true, false≢true}
-use mathlib.Core.Logic.{_⊎_, inl, inr, ⊎-elim}
+use mathlib.Core.Bool.{false≢true}
+use mathlib.Core.Logic.{inl, inr, ⊎-elim}
 use mathlib.Core.List.{[], _∷_}
 use native.Mathlib.Omega.{arith}
-use Rattle.geometry.specs.Cuts.{flip}
 use Rattle.geometry.specs.declared.Orientation.{Orientation}
 use Rattle.geometry.specs.declared.Rectangle.{Rectangle}
 use Rattle.slots.specs.declared.NodeKind.{NodeKind}
 use Rattle.slots.specs.declared.NodeKind.the-variants.{Container, Alloc, Free, Unused}
 use Rattle.sound.specs.View.{Link, none, to, Seen, Live, inUse}
-use Rattle.sound.specs.Rules.{Leaf, NotEmpty, Adjoin, join, PlaceChain}
+use Rattle.sound.specs.Rules.{Leaf, join, PlaceChain}
 use Rattle.sound.specs.Sound.{Linked}
-use Rattle.forest.specs.Pigeon.{In, Distinct}
-use Rattle.forest.specs.Forest.{Forest, empty, slot, head, slots, Shape, Rep}
+use Rattle.forest.specs.Pigeon.{In}
+use Rattle.forest.specs.Forest.{Forest, empty, slot, head, Rep}
 use Rattle.forest.specs.Back.{to-inj, no-link, shape-live}
-use Rattle.forest.specs.Place.{SlotAt, Then, PlaceF}
+use Rattle.forest.specs.Place.{PlaceF}
 use Rattle.forest.specs.Fill.{join-not-empty}
-use Rattle.changes.specs.Joins.{adjoins-first}
 use Rattle.changes.specs.Swaps.{Elsewhere, none-taken, Swaps, Kept, step-keeps}
 use Rattle.changes.specs.Stands.{cell, leaf-stands, leaf-was, leaf-bare, leaf-some, leaf-step-keeps, leaves-adjoin}
 use Rattle.changes.specs.Trades.{one-swapped, one-of-two}

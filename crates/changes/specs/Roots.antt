@@ -1,7 +1,7 @@
 -- Grow's step across the root's orientation: the whole top chain goes under a new root, a Container, with a Free slot after
 -- it. Rules 3 and 7 are kept, and the top chain's new place is the join.
 -- Assumes nothing.
-use Prim.Native.Nat.{ℕ, _≤_}
+use Prim.Native.Nat.{ℕ}
 use mathlib.Core.Path.{_≡_, refl, sym, _∙_, ap}
 use mathlib.Core.Bool.{Bool, true, false, false≢true}
 use mathlib.Core.Logic.{_⊎_, inl, inr, ⊎-elim}
@@ -19,7 +19,6 @@ use Rattle.forest.specs.Pigeon.{In, In-dec}
 use Rattle.forest.specs.Forest.{Forest, empty, slot, head, slots, Full, Rep, Represents, in-children, in-after}
 use Rattle.forest.specs.Bridge.{forest}
 use Rattle.forest.specs.Back.{no-link, shape-live, in-live, linked}
-use Rattle.forest.specs.Place.{PlaceF}
 use Rattle.changes.specs.Frame.{SameBody, same-body, rep-same, place-same, held-represents, chain-placed, placed-chain}
 use Rattle.changes.specs.Lasts.{below-parent, forest-last}
 use Rattle.changes.specs.Swaps.{Taken}
@@ -37,6 +36,25 @@ pub record NewRoot (get get′ : ℕ → Seen) (n a b : ℕ) (o : Orientation) (
   pub free : get′ b ≡ cell none none (to a) Free o t
   pub top : (j : ℕ) → Live get n j → get j .parent ≡ none → get′ j ≡ withParent (get j) (to a)
   pub other : (j : ℕ) → (In j (a ∷ b ∷ []) → ⊥) → (Live get n j → get j .parent ≡ none → ⊥) → get′ j ≡ get j
+
+module _ (get get′ : ℕ → Seen) (n n′ a b : ℕ) (o : Orientation) (z t : Rectangle) (W : Taken get n n′ (a ∷ b ∷ [])) (op : NewRoot get get′ n a b o z t) where
+  -- A live slot had no parent and has a for it, or did not change.
+  pub root-moves : (j : ℕ) → Live get n j → ((get j .parent ≡ none) × (get′ j ≡ withParent (get j) (to a))) ⊎ (get′ j ≡ get j)
+  root-moves j l = go (get j .parent) refl
+    where
+      go : (p : Link) → get j .parent ≡ p → ((get j .parent ≡ none) × (get′ j ≡ withParent (get j) (to a))) ⊎ (get′ j ≡ get j)
+      go none e = inl (e, op .top j l e)
+      go (to k) e = inr (op .other j (λ w. W .idle j w l) (λ x q. no-link (sym q ∙ e)))
+
+  -- A slot live now is new or was live.
+  pub root-live : (j : ℕ) → (In j (a ∷ b ∷ []) → ⊥) → Live get′ n′ j → Live get n j
+  root-live j m l = go (inUse (get j .kind)) refl
+    where
+      go : (k : Bool) → inUse (get j .kind) ≡ k → Live get n j
+      go true e = (W .counted j (l .0) m, e)
+      go false e =
+          let same : get′ j ≡ get j = op .other j m (λ x q. false≢true (sym e ∙ x .1)) in
+          absurd (false≢true (sym e ∙ (ap (λ x. inUse (x .kind)) (sym same) ∙ l .1)))
 
 module _ (get get′ : ℕ → Seen) (n n′ root a b : ℕ) (z t : Rectangle) (L : Linked get n root) (W : Taken get n n′ (a ∷ b ∷ []))
     (op : NewRoot get get′ n a b (flip (get root .orientation)) z t) where
@@ -64,11 +82,9 @@ module _ (get get′ : ℕ → Seen) (n n′ root a b : ℕ) (z t : Rectangle) (
 
   -- and each live slot has the body that it had.
   body : (j : ℕ) → Live get n j → SameBody (get j) (get′ j)
-  body j l = go (get j .parent) refl
-    where
-      go : (p : Link) → get j .parent ≡ p → SameBody (get j) (get′ j)
-      go none e = rw (op .top j l e) (record { kind = refl; orientation = refl; rect = refl })
-      go (to k) e = same-body (op .other j (λ w. W .idle j w l) (λ x q. no-link (sym q ∙ e)))
+  body j l =
+      ⊎-elim {C = SameBody (get j) (get′ j)} (λ h. rw (h .1) (record { kind = refl; orientation = refl; rect = refl })) same-body
+      (root-moves get get′ n n′ a b (flip (get root .orientation)) z t W op j l)
 
   module _ (F : Forest) (R : Represents get n root F) (some : NotEmpty t) where
     second : Stands get′ n′ none (to a) (flip (get root .orientation)) b empty none t
@@ -80,14 +96,11 @@ module _ (get get′ : ℕ → Seen) (n n′ root a b : ℕ) (z t : Rectangle) (
 
     -- Every live slot is a new one or was live.
     every : (j : ℕ) → Live get′ n′ j → In j (slots (slot a F (slot b empty empty)))
-    every j l = go (In-dec j (a ∷ b ∷ [])) (inUse (get j .kind)) refl
+    every j l = go (In-dec j (a ∷ b ∷ []))
       where
-        go : Dec (In j (a ∷ b ∷ [])) → (k : Bool) → inUse (get j .kind) ≡ k → In j (slots (slot a F (slot b empty empty)))
-        go (yes m) k e = ⊎-elim {C = In j (slots (slot a F (slot b empty empty)))} inl (in-after j a F (slot b empty empty)) m
-        go (no m) true e = in-children j a F (slot b empty empty) (R .all j (W .counted j (l .0) m, e))
-        go (no m) false e =
-            let same : get′ j ≡ get j = op .other j m (λ x q. false≢true (sym e ∙ x .1)) in
-            absurd (false≢true (sym e ∙ (ap (λ x. inUse (x .kind)) (sym same) ∙ l .1)))
+        go : Dec (In j (a ∷ b ∷ [])) → In j (slots (slot a F (slot b empty empty)))
+        go (yes m) = ⊎-elim {C = In j (slots (slot a F (slot b empty empty)))} inl (in-after j a F (slot b empty empty)) m
+        go (no m) = in-children j a F (slot b empty empty) (R .all j (root-live get get′ n n′ a b (flip (get root .orientation)) z t W op j m l))
 
     -- The table is the old forest under a, with b after it.
     held : Represents get′ n′ a (slot a F (slot b empty empty))

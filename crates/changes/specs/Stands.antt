@@ -1,19 +1,16 @@
 -- How one slot stands in a table, with its place.
 -- Assumes nothing.
 use Prim.Native.Nat.{ℕ, _≤_, _<_}
-use mathlib.Core.Path.{_≡_, refl, sym, _∙_, ap}
-use mathlib.Core.Logic.{_⊎_, inl, inr, ⊎-elim}
-use mathlib.Core.List.{List, [], _∷_, _++_}
-use native.Mathlib.Omega.{arith}
+use mathlib.Core.Path.{_≡_, refl}
+use mathlib.Core.Logic.{inl, inr}
 use Rattle.geometry.specs.Cuts.{flip}
 use Rattle.geometry.specs.declared.Orientation.{Orientation}
 use Rattle.geometry.specs.declared.Rectangle.{Rectangle}
 use Rattle.slots.specs.declared.NodeKind.{NodeKind}
-use Rattle.slots.specs.declared.NodeKind.the-variants.{Container, Alloc, Free, Unused}
+use Rattle.slots.specs.declared.NodeKind.the-variants.{Container, Alloc, Free}
 use Rattle.sound.specs.View.{Link, none, to, Seen, Live}
 use Rattle.sound.specs.Rules.{Leaf, NotEmpty, Adjoin, join, PlaceChain}
 use Rattle.sound.specs.Sound.{Linked}
-use Rattle.forest.specs.Pigeon.{In, Distinct}
 use Rattle.forest.specs.Forest.{Forest, empty, slot, slots, Bare, Shape, Here, Rep}
 use Rattle.forest.specs.Place.{SlotAt, Then, PlaceF}
 use Rattle.changes.specs.Joins.{adjoins-first}

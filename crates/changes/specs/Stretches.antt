@@ -3,9 +3,7 @@
 use Prim.Native.Nat.{ℕ, _≤_}
 use mathlib.Core.Path.{_≡_, refl, sym, _∙_, subst}
 use mathlib.Core.Logic.{inl, inr}
-use mathlib.Core.List.{_++_}
 use native.Mathlib.Omega.{arith}
-use Rattle.geometry.specs.Cuts.{flip}
 use Rattle.geometry.specs.declared.Orientation.{Orientation}
 use Rattle.geometry.specs.declared.Rectangle.{Rectangle}
 use Rattle.slots.specs.declared.NodeKind.{NodeKind}
@@ -14,14 +12,14 @@ use Rattle.sound.specs.View.{Link, none, to, Seen, Live}
 use Rattle.sound.specs.Rules.{Adjoin, join, PlaceChain}
 use Rattle.sound.specs.Sound.{Linked, LastTrue}
 use Rattle.forest.specs.Pigeon.{In, Distinct}
-use Rattle.forest.specs.Forest.{Forest, empty, slot, head, slots, Rep, Represents, in-left, in-right, rep-distinct}
+use Rattle.forest.specs.Forest.{Forest, empty, slot, head, slots, Rep, in-left, in-right, rep-distinct}
 use Rattle.forest.specs.Back.{no-link, linked}
 use Rattle.forest.specs.Place.{SlotAt, Then, PlaceF}
 use Rattle.changes.specs.Gaps.{Gap, here, under, past, plug, rim, parentAt, prevAt, orientationAt, fill-in, plug-head, distinct-fill, rep-fill}
 use Rattle.changes.specs.Joins.{join-adjoins, adjoins-join}
 use Rattle.changes.specs.Frame.{SameBody, same-body, slot-more, place-same, chain-placed, placed-chain}
 use Rattle.changes.specs.Lasts.{LastF, forest-last}
-use Rattle.changes.specs.Swaps.{Swap, round, swap-represents, At, at-slot}
+use Rattle.changes.specs.Swaps.{Swap, round, swap-represents, at-slot}
 
 -- A gap below a slot has a parent.
 deep-parent : (K : Gap) (a : ℕ) → parentAt K (to a) ≡ none → ⊥

@@ -3,7 +3,7 @@
 use Prim.Native.Nat.{ℕ, _≤_, _<_}
 use mathlib.Core.Path.{_≡_, refl, sym, _∙_, ap}
 use mathlib.Core.Logic.{_⊎_, inl, inr, ⊎-elim}
-use mathlib.Core.List.{List, [], _∷_, _++_}
+use mathlib.Core.List.{List, [], _++_}
 use native.Mathlib.Omega.{arith}
 use Rattle.geometry.specs.Cuts.{flip}
 use Rattle.geometry.specs.declared.Orientation.{Orientation}
@@ -16,7 +16,7 @@ use Rattle.forest.specs.Forest.{Forest, empty, slot, head, slots, Rep, Represen
 use Rattle.forest.specs.Bridge.{forest}
 use Rattle.forest.specs.Back.{to-inj, no-link, by-place, in-live, linked}
 use Rattle.forest.specs.Place.{PlaceF}
-use Rattle.changes.specs.Gaps.{Gap, plug, rim, parentAt, prevAt, orientationAt, locate, in-plug, fill-in, rim-in, rim-apart, distinct-fill, rep-fill}
+use Rattle.changes.specs.Gaps.{Gap, plug, rim, parentAt, prevAt, orientationAt, locate, in-plug, rim-in, rim-apart, distinct-fill, rep-fill}
 use Rattle.changes.specs.Frame.{SameBody, same-body, rep-same, place-fill, placed-chain, frame, frame-placed}
 use Rattle.changes.specs.Lasts.{LastF, last-replace, last-forest, forest-last}
 

@@ -1,8 +1,7 @@
 -- Rule 4 and allocate: a chosen Free slot is cut up, and the new Free slots stand between slots that are not Free.
 -- Assumes nothing.
-use Prim.Native.Nat.{ℕ, _<_}
+use Prim.Native.Nat.{ℕ}
 use mathlib.Core.Path.{_≡_, refl, sym, _∙_, ap}
-use mathlib.Core.Bool.{true}
 use mathlib.Core.Logic.{_⊎_, inl, inr, ⊎-elim}
 use mathlib.Core.List.{List, [], _∷_}
 use native.Mathlib.Omega.{arith}
@@ -46,16 +45,17 @@ elsewhere-alike {get} {get′} {written} {after} E j m = go after refl
 abbrev pub Fine : (ℕ → Seen) → (ℕ → Seen) → ℕ → ℕ → Type 0
 Fine get get′ i s = (get′ s .kind ≡ Free → ⊥) ⊎ (((k : ℕ) → get′ s .next ≡ to k → get i .next ≡ to k) × (get′ s .prev ≡ none → ⊥))
 
--- A Free slot i is cut up: it is Free no longer, and new slots stand in its place.
+-- Slot i is cut up: it is not Free now, and new slots stand in its place.
 pub record CutUp (get get′ : ℕ → Seen) (i : ℕ) (new : List ℕ) : Type 0 where
   pub chosen : get′ i .kind ≡ Free → ⊥
   pub taken : (s : ℕ) → In s new → Fine get get′ i s
   pub other : (j : ℕ) → (In j (i ∷ new) → ⊥) → Alike (get j) (get′ j)
 
--- Cutting up a Free slot keeps rule 4.
-pub cut-merged : (get get′ : ℕ → Seen) (n n′ root i : ℕ) (new : List ℕ) → Linked get n root → Merged get n → Live get n i → get i .kind ≡ Free
+-- Cutting up a slot whose next is not Free keeps rule 4.
+pub cut-merged : (get get′ : ℕ → Seen) (n n′ root i : ℕ) (new : List ℕ) → Linked get n root → Merged get n → Live get n i
+    → ((v : ℕ) → get i .next ≡ to v → get v .kind ≡ Free → ⊥)
     → Taken get n n′ new → CutUp get get′ i new → Merged get′ n′
-cut-merged get get′ n n′ root i new L M lv free W c = record { apart = apart; sibling = sibling }
+cut-merged get get′ n n′ root i new L M lv calm W c = record { apart = apart; sibling = sibling }
   where
     -- A Free slot that follows a live one is not new, and was Free.
     followed : (u v : ℕ) → Live get n u → get u .next ≡ to v → get′ v .kind ≡ Free → get v .kind ≡ Free
@@ -74,7 +74,7 @@ cut-merged get get′ n n′ root i new L M lv free W c = record { apart = apart
         go : Dec (In u (i ∷ new)) → ⊥
         go (yes m) =
             ⊎-elim (λ e. c .chosen (rw e at f))
-            (λ s. ⊎-elim (λ w. w f) (λ w. let y = w .0 v x in M .apart i v lv y free (followed i v lv y g)) (c .taken u s)) m
+            (λ s. ⊎-elim (λ w. w f) (λ w. let y = w .0 v x in calm v y (followed i v lv y g)) (c .taken u s)) m
         go (no m) =
             let a = c .other u m in
             let y = sym (a .next) ∙ x in
@@ -97,6 +97,10 @@ not-free e (inl a) f = let z : _≡_ {A = ℕ} 0 1 = cc in omega arith
 not-free e (inr a) f = let z : _≡_ {A = ℕ} 0 1 = cc in omega arith
 
 module _ (get get′ : ℕ → Seen) (n n′ root i : ℕ) (L : Linked get n root) (M : Merged get n) (lv : Live get n i) (free : get i .kind ≡ Free) where
+  -- The next of a Free slot is not Free.
+  calm : (v : ℕ) → get i .next ≡ to v → get v .kind ≡ Free → ⊥
+  calm v e f = M .apart i v lv e free f
+
   -- A new Alloc or Container,
   solid : (s : ℕ) {m : Seen} → get′ s ≡ m → (m .kind ≡ Alloc) ⊎ (m .kind ≡ Container) → Fine get get′ i s
   solid s {m} e k = inl (not-free (ap (λ x. x .kind) e) k)
@@ -110,7 +114,7 @@ module _ (get get′ : ℕ → Seen) (n n′ root i : ℕ) (L : Linked get n roo
 
   -- The request fills the slot.
   pub exact-merged : Rekind get get′ i Alloc → Merged get′ n
-  exact-merged op = cut-merged get get′ n n root i [] L M lv free (none-taken get n) (record {
+  exact-merged op = cut-merged get get′ n n root i [] L M lv calm (none-taken get n) (record {
     chosen = not-free (ap (λ x. x .kind) (op .chosen)) (inl refl);
     taken = λ s m. absurd m;
     other = λ j m. same-alike (op .other j m);
@@ -118,7 +122,7 @@ module _ (get get′ : ℕ → Seen) (n n′ root i : ℕ) (L : Linked get n roo
 
   -- Cut along, no leftover.
   pub along-merged : (s : ℕ) (q t : Rectangle) → Taken get n n′ (s ∷ []) → Along get get′ i s q t → Merged get′ n′
-  along-merged s q t W op = cut-merged get get′ n n′ root i (s ∷ []) L M lv free W (record {
+  along-merged s q t W op = cut-merged get get′ n n′ root i (s ∷ []) L M lv calm W (record {
     chosen = not-free (ap (λ x. x .kind) (op .chosen)) (inl refl);
     taken = λ x. ⊎-elim {C = Fine get get′ i x} (λ e. rw e (spare s i (op .split) refl (inl refl))) (λ m. absurd m);
     other = elsewhere-alike (op .rest);
@@ -126,7 +130,7 @@ module _ (get get′ : ℕ → Seen) (n n′ root i : ℕ) (L : Linked get n roo
 
   -- Cut along, with a leftover.
   pub along-left-merged : (s a l : ℕ) (q u t : Rectangle) → Taken get n n′ (s ∷ a ∷ l ∷ []) → AlongLeft get get′ i s a l q u t → Merged get′ n′
-  along-left-merged s a l q u t W op = cut-merged get get′ n n′ root i (s ∷ a ∷ l ∷ []) L M lv free W (record {
+  along-left-merged s a l q u t W op = cut-merged get get′ n n′ root i (s ∷ a ∷ l ∷ []) L M lv calm W (record {
     chosen = not-free (ap (λ x. x .kind) (op .chosen)) (inr refl);
     taken = λ x. ⊎-elim {C = Fine get get′ i x} (λ e. rw e (spare s i (op .split) refl (inl refl)))
         (⊎-elim {C = Fine get get′ i x} (λ e. rw e (solid a (op .alloc) (inl refl)))
@@ -136,7 +140,7 @@ module _ (get get′ : ℕ → Seen) (n n′ root i : ℕ) (L : Linked get n roo
 
   -- Cut across, no leftover.
   pub across-merged : (s a : ℕ) (q t : Rectangle) → Taken get n n′ (a ∷ s ∷ []) → Across get get′ i s a q t → Merged get′ n′
-  across-merged s a q t W op = cut-merged get get′ n n′ root i (a ∷ s ∷ []) L M lv free W (record {
+  across-merged s a q t W op = cut-merged get get′ n n′ root i (a ∷ s ∷ []) L M lv calm W (record {
     chosen = not-free (ap (λ x. x .kind) (op .chosen)) (inr refl);
     taken = λ x. ⊎-elim {C = Fine get get′ i x} (λ e. rw e (solid a (op .alloc) (inl refl)))
         (⊎-elim {C = Fine get get′ i x} (λ e. rw e (spare s a (op .split) refl (inr refl))) (λ m. absurd m));
@@ -145,7 +149,7 @@ module _ (get get′ : ℕ → Seen) (n n′ root i : ℕ) (L : Linked get n roo
 
   -- Cut across, with a leftover.
   pub across-left-merged : (s c a l : ℕ) (z q u t : Rectangle) → Taken get n n′ (c ∷ a ∷ l ∷ s ∷ []) → AcrossLeft get get′ i s c a l z q u t → Merged get′ n′
-  across-left-merged s c a l z q u t W op = cut-merged get get′ n n′ root i (c ∷ a ∷ l ∷ s ∷ []) L M lv free W (record {
+  across-left-merged s c a l z q u t W op = cut-merged get get′ n n′ root i (c ∷ a ∷ l ∷ s ∷ []) L M lv calm W (record {
     chosen = not-free (ap (λ x. x .kind) (op .chosen)) (inr refl);
     taken = λ x. ⊎-elim {C = Fine get get′ i x} (λ e. rw e (solid c (op .box) (inr refl)))
         (⊎-elim {C = Fine get get′ i x} (λ e. rw e (solid a (op .alloc) (inl refl)))

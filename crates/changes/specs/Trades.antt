@@ -1,22 +1,20 @@
 -- Three ways to swap: one slot for one, two slots for one, and one for two.
 -- Assumes nothing.
-use Prim.Native.Nat.{ℕ, _≤_, _<_}
+use Prim.Native.Nat.{ℕ}
 use mathlib.Core.Path.{_≡_, refl, sym, _∙_, ap}
 use mathlib.Core.Bool.{true, false≢true}
 use mathlib.Core.Logic.{_⊎_, inl, inr, ⊎-elim}
 use mathlib.Core.List.{List, [], _∷_, _++_}
 use native.Mathlib.Omega.{arith}
-use Rattle.geometry.specs.Cuts.{flip}
 use Rattle.geometry.specs.declared.Orientation.{Orientation}
 use Rattle.geometry.specs.declared.Rectangle.{Rectangle}
-use Rattle.slots.specs.declared.NodeKind.{NodeKind}
-use Rattle.slots.specs.declared.NodeKind.the-variants.{Container, Alloc, Free, Unused}
+use Rattle.slots.specs.declared.NodeKind.the-variants.{Container, Free, Unused}
 use Rattle.sound.specs.View.{Link, none, to, Seen, Live, inUse}
-use Rattle.sound.specs.Rules.{Leaf, NotEmpty, Adjoin, join}
+use Rattle.sound.specs.Rules.{Adjoin, join}
 use Rattle.forest.specs.Pigeon.{In, Distinct}
-use Rattle.forest.specs.Forest.{Forest, empty, slot, head, slots, Here, Rep, in-right, in-cases, in-children, in-after}
+use Rattle.forest.specs.Forest.{Forest, empty, slot, head, slots, Rep, in-right, in-cases, in-children, in-after}
 use Rattle.forest.specs.Back.{no-link, by-place, in-live, distinct-right, distinct-apart}
-use Rattle.forest.specs.Place.{SlotAt, Then, PlaceF}
+use Rattle.forest.specs.Place.{Then, PlaceF}
 use Rattle.changes.specs.Gaps.{head-in}
 use Rattle.changes.specs.Joins.{join-adjoins, adjoins-join, second-adjoins, adjoins-first}
 use Rattle.changes.specs.Frame.{SameBody, place-same, then-more}
