@@ -143,8 +143,8 @@ fn parent_agrees(words: &[u32], node: Node) -> bool
         return true;
     }
     let above = slots::node_at(words, parent);
-    let kind = above.kind;
-    if !slots::same_kind(kind, NodeKind::Container) {
+    let above_kind = above.kind;
+    if !slots::same_kind(above_kind, NodeKind::Container) {
         return false;
     }
     let a = above.orientation;

@@ -1,3 +1,4 @@
 pub mod View
 pub mod Rules
 pub mod Sound
+pub mod Examples

@@ -1,8 +1,8 @@
 -- `links::child_agrees` meets its contract: each answer rewrites `childAgrees` with the test that led there.
 -- Assumes nothing.
 use borrow.Author.Needs.{needs}
-use Rattle.links.specs.TestLaws.{passed, failed}
 use Rattle.links.specs.Links.{childAgrees}
+use Rattle.links.specs.TestLaws.{passed, failed}
 use Rattle.links.proofs.child_agrees.Statement.{statement}
 use Rattle.links.proofs.child_agrees.Tie as tie
 

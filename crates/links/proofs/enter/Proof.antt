@@ -3,10 +3,10 @@
 use mathlib.Core.Path.{sym, _∙_}
 use native.Mathlib.Omega.{arith}
 use borrow.Author.Needs.{needs}
-use Rattle.links.specs.TurnLaws.{first-parent}
 use Rattle.links.specs.Links.{entered}
-use Rattle.links.proofs.enter.Tie as tie
+use Rattle.links.specs.TurnLaws.{first-parent}
 use Rattle.links.proofs.enter.Statement.{statement}
+use Rattle.links.proofs.enter.Tie as tie
 
 is-first-requires : tie.Need-is-first-requires
 is-first-requires c κs = search needs

@@ -4,10 +4,10 @@ use mathlib.Core.Path.{_≡_, refl, _∙_}
 use Prim.Native.Nat.{_≤_, _-_}
 use native.Mathlib.Omega.{arith}
 use lib.ListN.{length}
-use Rattle.links.specs.TurnLaws.{firsts-more}
 use Rattle.links.specs.Links.{firstsTo}
-use Rattle.links.proofs.enter_firsts.Tie as tie
+use Rattle.links.specs.TurnLaws.{firsts-more}
 use Rattle.links.proofs.enter_firsts.Statement.{statement}
+use Rattle.links.proofs.enter_firsts.Tie as tie
 
 abbrev Inv-loop : tie.InvT-loop
 Inv-loop words firsts₀ n i₀ firsts i = (i ≤ n) × (firsts ≡ firstsTo words n i firsts₀) × (length firsts ≡ length firsts₀)

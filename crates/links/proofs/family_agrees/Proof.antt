@@ -1,10 +1,10 @@
 -- `links::family_agrees` meets its contract: each answer rewrites `familyAgrees` with the tests that led there.
 -- Assumes nothing.
 use borrow.Author.Needs.{needs}
-use Rattle.links.specs.TestLaws.{passed, failed}
 use Rattle.links.specs.Links.{familyAgrees}
-use Rattle.links.proofs.family_agrees.Tie as tie
+use Rattle.links.specs.TestLaws.{passed, failed}
 use Rattle.links.proofs.family_agrees.Statement.{statement}
+use Rattle.links.proofs.family_agrees.Tie as tie
 
 parent-agrees-requires : tie.Need-parent-agrees-requires
 parent-agrees-requires c κs = search needs

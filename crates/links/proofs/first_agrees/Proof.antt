@@ -2,8 +2,8 @@
 -- Assumes nothing.
 use mathlib.Core.Path.{sym, _∙_}
 use borrow.Author.Needs.{needs}
-use Rattle.links.specs.TestLaws.{passed, failed}
 use Rattle.links.specs.Links.{firstAgrees}
+use Rattle.links.specs.TestLaws.{passed, failed}
 use Rattle.links.proofs.first_agrees.Statement.{statement}
 use Rattle.links.proofs.first_agrees.Tie as tie
 

@@ -4,8 +4,8 @@ use mathlib.Core.Path.{sym, _∙_}
 use borrow.Author.Needs.{needs}
 use Rattle.links.specs.Links.{isFirst}
 use Rattle.links.specs.TestLaws.{passed, failed}
-use Rattle.links.proofs.is_first.Tie as tie
 use Rattle.links.proofs.is_first.Statement.{statement}
+use Rattle.links.proofs.is_first.Tie as tie
 
 node-at-requires : tie.Need-node-at-requires
 node-at-requires c κs = search needs

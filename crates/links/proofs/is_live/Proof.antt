@@ -4,8 +4,8 @@ use mathlib.Core.Path.{sym, _∙_}
 use borrow.Author.Tests.{lt-ltb, le-ltb}
 use borrow.Author.Needs.{needs}
 use Rattle.links.specs.Links.{liveAt}
-use Rattle.links.proofs.is_live.Tie as tie
 use Rattle.links.proofs.is_live.Statement.{statement}
+use Rattle.links.proofs.is_live.Tie as tie
 
 returns : tie.Need-returns
 unfolding liveAt

@@ -1,10 +1,10 @@
 -- `links::links_sane` meets its contract: each answer rewrites `linksSane` with the tests that led there.
 -- Assumes nothing.
 use borrow.Author.Needs.{needs}
-use Rattle.links.specs.TestLaws.{passed, failed}
 use Rattle.links.specs.Links.{linksSane}
-use Rattle.links.proofs.links_sane.Tie as tie
+use Rattle.links.specs.TestLaws.{passed, failed}
 use Rattle.links.proofs.links_sane.Statement.{statement}
+use Rattle.links.proofs.links_sane.Tie as tie
 
 is-link-requires : tie.Need-is-link-requires
 is-link-requires c κs = search needs

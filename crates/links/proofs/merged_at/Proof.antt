@@ -1,12 +1,26 @@
 -- `links::merged_at` meets its contract: each answer rewrites `mergedAt` with the tests that led there.
 -- Assumes nothing.
-use mathlib.Core.Path.{sym, _∙_}
+use mathlib.Core.Path.{_≡_, sym, _∙_}
+use mathlib.Core.Bool.{_||_, not}
 use borrow.Author.Tests.{lt-leb, le-leb}
 use borrow.Author.Needs.{needs}
+use Rattle.slots.specs.Slots.{isNone}
 use Rattle.links.specs.Links.{mergedAt}
 use Rattle.links.specs.TestLaws.{passed, failed}
-use Rattle.links.proofs.merged_at.Tie as tie
 use Rattle.links.proofs.merged_at.Statement.{statement}
+use Rattle.links.proofs.merged_at.Tie as tie
+
+-- What is left of the test of a Free slot without next.
+last-passed : (c : tie.Then2) → let a = c .before .before .before .before .before .before .before .before .before .args in let m = c .before .before .before .before .before .before .before .node-at .result in
+    mergedAt (a .words .now) (a .n) (a .i .0) ≡ (not (isNone (m .prev)) || isNone (m .parent))
+unfolding mergedAt
+last-passed c =
+    let free = c .before .before .before .before .before in
+    rw (
+      ← free .before .before .node-at .ensures,
+      passed (free .before .same-kind .ensures) (free .if1 .left),
+      le-leb _ _ (c .if2 .taken),
+    )
 
 node-at-requires : tie.Need-node-at-requires
 node-at-requires c κs = search needs
@@ -25,29 +39,12 @@ is-none-requires-2 : tie.Need-is-none-requires-2
 is-none-requires-2 c κs = search needs
 
 returns-2 : tie.Need-returns-2
-unfolding mergedAt
 returns-2 c =
-    let last = c .before .before .before in
-    let free = last .before .before .before .before .before in
-    rw (
-      ← free .before .before .node-at .ensures,
-      passed (free .before .same-kind .ensures) (free .if1 .left),
-      le-leb _ _ (last .if2 .taken),
-      sym (c .before .before .is-none .ensures) ∙ c .before .if3 .taken,
-      c .is-none2 .ensures,
-    )
+    let kind = c .before .before in
+    rw (last-passed (kind .before), sym (kind .is-none .ensures) ∙ c .before .if3 .taken, c .is-none2 .ensures)
 
 returns-3 : tie.Need-returns-3
-unfolding mergedAt
-returns-3 c =
-    let last = c .before .before in
-    let free = last .before .before .before .before .before in
-    rw (
-      ← free .before .before .node-at .ensures,
-      passed (free .before .same-kind .ensures) (free .if1 .left),
-      le-leb _ _ (last .if2 .taken),
-      sym (c .before .is-none .ensures) ∙ c .if3 .left,
-    )
+returns-3 c = rw (last-passed (c .before .before), sym (c .before .is-none .ensures) ∙ c .if3 .left)
 
 node-at-requires-2 : tie.Need-node-at-requires-2
 node-at-requires-2 c κs = search needs

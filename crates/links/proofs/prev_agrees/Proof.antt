@@ -3,8 +3,8 @@
 use mathlib.Core.Path.{sym, _∙_}
 use borrow.Author.Needs.{needs}
 use Rattle.links.specs.Links.{prevAgrees}
-use Rattle.links.proofs.prev_agrees.Tie as tie
 use Rattle.links.proofs.prev_agrees.Statement.{statement}
+use Rattle.links.proofs.prev_agrees.Tie as tie
 
 is-none-requires : tie.Need-is-none-requires
 is-none-requires c κs = search needs

@@ -1,8 +1,8 @@
 -- `links::root_agrees` meets its contract: each answer rewrites `rootAgrees` with the tests that led there.
 -- Assumes nothing.
 use borrow.Author.Needs.{needs}
-use Rattle.links.specs.TestLaws.{passed, failed}
 use Rattle.links.specs.Links.{rootAgrees}
+use Rattle.links.specs.TestLaws.{passed, failed}
 use Rattle.links.proofs.root_agrees.Statement.{statement}
 use Rattle.links.proofs.root_agrees.Tie as tie
 

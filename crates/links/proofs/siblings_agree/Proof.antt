@@ -3,8 +3,8 @@
 use borrow.Author.Needs.{needs}
 use Rattle.links.specs.Links.{siblingsAgree}
 use Rattle.links.specs.TestLaws.{passed, failed}
-use Rattle.links.proofs.siblings_agree.Tie as tie
 use Rattle.links.proofs.siblings_agree.Statement.{statement}
+use Rattle.links.proofs.siblings_agree.Tie as tie
 
 next-agrees-requires : tie.Need-next-agrees-requires
 next-agrees-requires c κs = search needs

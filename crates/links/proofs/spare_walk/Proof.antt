@@ -3,11 +3,11 @@
 -- Assumes nothing.
 use mathlib.Core.Path.{_≡_, refl, _∙_}
 use native.Mathlib.Omega.{arith}
+use Rattle.links.specs.Links.{spareWalk}
 use Rattle.links.specs.TurnLaws.{walk-on, walk-past, walk-at-live, walk-done}
 use Rattle.links.specs.TestLaws.{passed, failed}
-use Rattle.links.specs.Links.{spareWalk}
-use Rattle.links.proofs.spare_walk.Tie as tie
 use Rattle.links.proofs.spare_walk.Statement.{statement}
+use Rattle.links.proofs.spare_walk.Tie as tie
 
 abbrev Inv-loop : tie.InvT-loop
 Inv-loop words n unused at₀ left₀ at left = spareWalk words n left at ≡ spareWalk words n unused at₀
