@@ -1,13 +1,19 @@
 // Reads the list of the original crate's calls and answers (docs/ORACLE.md) from standard input, holds the proved
 // code against it and writes what agrees. A line on which our code gives something else is a mismatch; one that is
 // out of form, of no known kind, or on which our code must not be called is a fault.
+mod agree;
+mod calls;
 mod leaves;
 mod report;
+mod take;
 mod tickets;
+mod told;
 mod verdict;
 
 use reading::Line;
 use reading::Reading;
+use take::Call;
+use take::Kept;
 use verdict::Tally;
 use verdict::Verdict;
 ghost use Prim.Native.Nat.{_≤_};
@@ -29,34 +35,19 @@ fn numbers_on(kind: u32, listed: u32) -> usize {
     }
 }
 
-// What is found of a line that has as many numbers as its kind asks.
-fn replayed(numbers: &[u32; 128], kind: u32) -> Verdict {
-    match kind {
-        2 => tickets::allocate(numbers),
-        3 => tickets::deallocate(numbers),
-        20 => leaves::bucket(numbers),
-        21 => leaves::rounding(numbers),
-        22 => leaves::cut(numbers),
-        _ => Verdict::Later,
+fn is_in_form(line: &[u32; 128], read: Line) -> bool {
+    if read.bad {
+        return false;
     }
+    read.count == numbers_on(line[0], line[2])
 }
 
-fn verdict_of(numbers: &[u32; 128], line: Line) -> Verdict {
-    if line.bad {
-        return Verdict::Fault;
-    }
-    let kind = numbers[0];
-    if line.count != numbers_on(kind, numbers[2]) {
-        return Verdict::Fault;
-    }
-    replayed(numbers, kind)
-}
-
-// One more line of its kind, unless it differs or is a fault.
+// One more of its kind, unless it differs, is a fault, or is told of a call that is counted at its end.
 fn count_kind(counts: &mut [u64; 32], kind: u32, verdict: Verdict) {
     match verdict {
         Verdict::Differs => {}
         Verdict::Fault => {}
+        Verdict::Told => {}
         _ => {
             let at = kind as usize;
             if at < 32 {
@@ -66,26 +57,94 @@ fn count_kind(counts: &mut [u64; 32], kind: u32, verdict: Verdict) {
     }
 }
 
-// Takes a line that was read. At the end of the input there is none.
-fn take_line(numbers: &[u32; 128], counts: &mut [u64; 32], line: Line, tally: Tally) -> Tally {
-    if reading::is_blank(line) {
-        return tally;
+// What is counted at a line: the call that it closes, if that is replayed, or else the line itself.
+fn counted_at(kind: u32, call: Call, at: u64) -> Call {
+    if kind == 9 {
+        if calls::is_replayed(call.kind) {
+            return call;
+        }
     }
-    let kind = numbers[0];
-    let verdict = verdict_of(numbers, line);
-    count_kind(counts, kind, verdict);
-    verdict::counted(tally, kind, verdict)
+    Call { kind: kind, at: at }
 }
 
-// The counts so far, and where the input stands.
-struct Pass {
+fn count(counts: &mut [u64; 32], kind: u32, call: Call, tally: Tally, verdict: Verdict) -> Tally {
+    let about = counted_at(kind, call, tally.lines);
+    count_kind(counts, about.kind, verdict);
+    verdict::counted(tally, about.kind, about.at, verdict)
+}
+
+// What is kept from line to line, beside the tables and the counts of each kind.
+struct Run {
+    kept: Kept,
     tally: Tally,
+}
+
+// Takes a line that was read. At the end of the input there is none.
+fn take_line(
+    line: &[u32; 128],
+    read: Line,
+    told_words: &mut [u32; 2048],
+    told_generations: &mut [u8; 256],
+    told_lists: &mut [[u32; 1024]; 3],
+    words: &mut [u32; 2048],
+    generations: &mut [u8; 256],
+    small: &mut [u32; 1024],
+    medium: &mut [u32; 1024],
+    large: &mut [u32; 1024],
+    counts: &mut [u64; 32],
+    run: Run,
+) -> Run {
+    if reading::is_blank(read) {
+        return run;
+    }
+    let kept = run.kept;
+    let call = kept.call;
+    let before = run.tally;
+    let tally = verdict::with_line(before);
+    if !is_in_form(line, read) {
+        return Run {
+            kept: kept,
+            tally: verdict::counted(tally, 0, 0, Verdict::Fault),
+        };
+    }
+    let step = take::take(
+        line,
+        told_words,
+        told_generations,
+        told_lists,
+        words,
+        generations,
+        small,
+        medium,
+        large,
+        kept,
+        tally.lines,
+    );
+    let after = step.kept;
+    let verdict = step.verdict;
+    Run {
+        kept: after,
+        tally: count(counts, line[0], call, tally, verdict),
+    }
+}
+
+// What is kept from line to line, and where the input stands.
+struct Pass {
+    run: Run,
     reading: Reading,
 }
 
 fn take_next(
-    numbers: &mut [u32; 128],
+    line: &mut [u32; 128],
     buffer: &mut [u8; 65536],
+    told_words: &mut [u32; 2048],
+    told_generations: &mut [u8; 256],
+    told_lists: &mut [[u32; 1024]; 3],
+    words: &mut [u32; 2048],
+    generations: &mut [u8; 256],
+    small: &mut [u32; 1024],
+    medium: &mut [u32; 1024],
+    large: &mut [u32; 1024],
     counts: &mut [u64; 32],
     pass: Pass,
 ) -> Pass
@@ -93,29 +152,68 @@ fn take_next(
     ensures { λ r. ⌜ r .reading .end ≤ 65536 ⌝ }
 {
     let before = pass.reading;
-    let tally = pass.tally;
-    let after = reading::next_line(numbers, buffer, before);
-    let line = after.line;
+    let run = pass.run;
+    let after = reading::next_line(line, buffer, before);
+    let read = after.line;
     Pass {
-        tally: take_line(numbers, counts, line, tally),
+        run: take_line(
+            line,
+            read,
+            told_words,
+            told_generations,
+            told_lists,
+            words,
+            generations,
+            small,
+            medium,
+            large,
+            counts,
+            run,
+        ),
         reading: after,
     }
 }
 
 // Nothing says that the input ends, so the loop counts its turns down from a number that no run uses up.
 fn read_all(counts: &mut [u64; 32]) -> Tally {
-    let mut numbers = [0u32; 128];
+    let mut line = [0u32; 128];
     let mut buffer = io::large_buffer();
+    let mut told_words = [0u32; 2048];
+    let mut told_generations = [0u8; 256];
+    let list = [0u32; 1024];
+    let mut told_lists = [list; 3];
+    let mut words = [0u32; 2048];
+    let mut generations = [0u8; 256];
+    let mut small = [0u32; 1024];
+    let mut medium = [0u32; 1024];
+    let mut large = [0u32; 1024];
     let mut pass = Pass {
-        tally: verdict::none_yet(),
+        run: Run {
+            kept: take::nothing_yet(&line),
+            tally: verdict::none_yet(),
+        },
         reading: reading::unread(),
     };
     let mut turns = u64::MAX;
     while turns > 0 && !pass.reading.ended {
-        pass = take_next(&mut numbers, &mut buffer, counts, pass);
+        pass = take_next(
+            &mut line,
+            &mut buffer,
+            &mut told_words,
+            &mut told_generations,
+            &mut told_lists,
+            &mut words,
+            &mut generations,
+            &mut small,
+            &mut medium,
+            &mut large,
+            counts,
+            pass,
+        );
         turns -= 1;
     }
-    pass.tally
+    let run = pass.run;
+    run.tally
 }
 
 fn main() {

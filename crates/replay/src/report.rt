@@ -1,4 +1,5 @@
 // What the program writes at the end.
+use crate::calls;
 use crate::verdict::Tally;
 use reading::say;
 
@@ -9,11 +10,17 @@ fn say_kind(kind: u64, number: u64) {
     say(b": ", number);
 }
 
+fn say_unless_replayed(kind: u32, number: u64) {
+    if !calls::is_replayed(kind) {
+        say_kind(kind as u64, number);
+    }
+}
+
 // The kinds that are not replayed yet.
 fn report_later(counts: &[u64; 32]) {
     let mut kind = 1;
     while kind < 15 {
-        say_kind(kind as u64, counts[kind]);
+        say_unless_replayed(kind as u32, counts[kind]);
         kind += 1;
     }
 }
@@ -36,9 +43,18 @@ fn report_agreed(counts: &[u64; 32], tickets: u64) {
     say(b"tickets agree ", tickets);
 }
 
+// The calls whose whole state agrees, and the lines that told of them.
+fn report_calls(counts: &[u64; 32], told: u64) {
+    say(b"starts agree ", counts[1]);
+    say(b"clears agree ", counts[5]);
+    say(b"resets agree ", counts[6]);
+    say(b"  lines that tell of these calls ", told);
+}
+
 pub fn report(counts: &[u64; 32], tally: Tally) {
     say(b"lines ", tally.lines);
     report_agreed(counts, tally.tickets);
+    report_calls(counts, tally.told);
     say(b"mismatches ", tally.mismatches);
     say(b"faults ", tally.faults);
     report_firsts(tally);

@@ -7,6 +7,8 @@ pub enum Verdict {
     Ticket,
     // The line is not replayed yet.
     Later,
+    // The line tells of a call that is held against our code at its end.
+    Told,
     // Our code gives something else.
     Differs,
     // No line of the format, or one on which our code must not be called.
@@ -17,6 +19,7 @@ pub enum Verdict {
 pub struct Tally {
     pub lines: u64,
     pub tickets: u64,
+    pub told: u64,
     pub later: u64,
     pub mismatches: u64,
     pub faults: u64,
@@ -29,6 +32,7 @@ pub fn none_yet() -> Tally {
     Tally {
         lines: 0,
         tickets: 0,
+        told: 0,
         later: 0,
         mismatches: 0,
         faults: 0,
@@ -45,10 +49,17 @@ pub fn told(agrees: bool) -> Verdict {
     Verdict::Differs
 }
 
-fn mismatched(tally: Tally, kind: u32) -> Tally {
+// One more line.
+pub fn with_line(tally: Tally) -> Tally {
+    let mut after = tally;
+    after.lines = reading::more(tally.lines);
+    after
+}
+
+fn mismatched(tally: Tally, kind: u32, at: u64) -> Tally {
     let mut after = tally;
     if tally.mismatches == 0 {
-        after.first_mismatch = tally.lines;
+        after.first_mismatch = at;
         after.mismatch_kind = kind;
     }
     after.mismatches = reading::more(tally.mismatches);
@@ -64,10 +75,9 @@ fn faulted(tally: Tally) -> Tally {
     after
 }
 
-// The counts after one more line of this kind.
-pub fn counted(tally: Tally, kind: u32, verdict: Verdict) -> Tally {
+// The counts with what is found at the line that was counted last. A mismatch is reported with this kind and line.
+pub fn counted(tally: Tally, kind: u32, at: u64, verdict: Verdict) -> Tally {
     let mut after = tally;
-    after.lines = reading::more(tally.lines);
     match verdict {
         Verdict::Agrees => after,
         Verdict::Ticket => {
@@ -79,7 +89,11 @@ pub fn counted(tally: Tally, kind: u32, verdict: Verdict) -> Tally {
             after.later = reading::more(tally.later);
             after
         }
-        Verdict::Differs => mismatched(after, kind),
-        Verdict::Fault => faulted(after),
+        Verdict::Told => {
+            after.told = reading::more(tally.told);
+            after
+        }
+        Verdict::Differs => mismatched(tally, kind, at),
+        Verdict::Fault => faulted(tally),
     }
 }

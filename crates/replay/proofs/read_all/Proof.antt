@@ -7,13 +7,18 @@ use Rattle.replay.proofs.read_all.Statement.{statement}
 use Rattle.replay.proofs.read_all.Tie as tie
 
 abbrev Inv-loop : tie.InvT-loop
-Inv-loop counts₀ numbers₀ buffer₀ pass₀ turns₀ counts numbers buffer pass turns = pass .reading .end ≤ 65536
+Inv-loop counts₀ line₀ buffer₀ told-words₀ told-generations₀ told-lists₀ words₀ generations₀ small₀ medium₀ large₀ pass₀ turns₀ counts line buffer told-words told-generations told-lists words generations small medium large pass turns =
+    pass .reading .end ≤ 65536
 
 abbrev μ-loop : tie.MeasureT-loop
-μ-loop counts₀ numbers₀ buffer₀ pass₀ turns₀ counts numbers buffer pass turns = turns
+μ-loop counts₀ line₀ buffer₀ told-words₀ told-generations₀ told-lists₀ words₀ generations₀ small₀ medium₀ large₀ pass₀ turns₀ counts line buffer told-words told-generations told-lists words generations small medium large pass turns =
+    turns
 
 large-buffer-requires : tie.Need-large-buffer-requires Inv-loop μ-loop
 large-buffer-requires c κs = tt
+
+nothing-yet-requires : tie.Need-nothing-yet-requires Inv-loop μ-loop
+nothing-yet-requires c κs = tt
 
 none-yet-requires : tie.Need-none-yet-requires Inv-loop μ-loop
 none-yet-requires c κs = tt
@@ -28,10 +33,10 @@ take-next-requires : tie.Need-take-next-requires Inv-loop μ-loop
 take-next-requires c κs = search needs
 
 sub-turns : tie.Need-sub-turns Inv-loop μ-loop
-sub-turns c = omega arith
+sub-turns c = omega (arith, c .before .before .before .before .before .before .before .before .before .before .before .before .before .before .loop-test .taken)
 
 loop-less : tie.Need-loop-less Inv-loop μ-loop
-loop-less c = omega arith
+loop-less c = omega (arith, c .before .before .before .before .before .before .before .before .before .before .before .before .before .before .loop-test .taken)
 
 loop-again : tie.Need-loop-again Inv-loop μ-loop
 loop-again c = search needs
@@ -46,6 +51,7 @@ read-all-spec =
     Inv-loop
     μ-loop
     large-buffer-requires
+    nothing-yet-requires
     none-yet-requires
     unread-requires
     loop-holds

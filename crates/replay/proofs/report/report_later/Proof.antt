@@ -14,14 +14,17 @@ abbrev μ-loop : tie.MeasureT-loop
 loop-holds : tie.Need-loop-holds Inv-loop μ-loop
 loop-holds c = search needs
 
-mul-say-kind : tie.Need-mul-say-kind Inv-loop μ-loop
-mul-say-kind c = search needs
+cast-say-unless-replayed : tie.Need-cast-say-unless-replayed Inv-loop μ-loop
+cast-say-unless-replayed c = search needs
 
-element-copy-out-say-kind : tie.Need-element-copy-out-say-kind Inv-loop μ-loop
-element-copy-out-say-kind c = search needs
+mul-say-unless-replayed : tie.Need-mul-say-unless-replayed Inv-loop μ-loop
+mul-say-unless-replayed c = search needs
 
-say-kind-requires : tie.Need-say-kind-requires Inv-loop μ-loop
-say-kind-requires c κs = search needs
+element-copy-out-say-unless-replayed : tie.Need-element-copy-out-say-unless-replayed Inv-loop μ-loop
+element-copy-out-say-unless-replayed c = search needs
+
+say-unless-replayed-requires : tie.Need-say-unless-replayed-requires Inv-loop μ-loop
+say-unless-replayed-requires c κs = search needs
 
 add-kind : tie.Need-add-kind Inv-loop μ-loop
 add-kind c = search needs
@@ -42,9 +45,10 @@ report-later-spec =
     Inv-loop
     μ-loop
     loop-holds
-    mul-say-kind
-    element-copy-out-say-kind
-    say-kind-requires
+    cast-say-unless-replayed
+    mul-say-unless-replayed
+    element-copy-out-say-unless-replayed
+    say-unless-replayed-requires
     add-kind
     loop-less
     loop-again

@@ -1,0 +1,357 @@
+// Takes the lines of the list one by one. A call is opened by its line, told of by changes of the state, and closed by a
+// line of kind 9, where our state is held against the one that was told.
+use crate::agree;
+use crate::calls;
+use crate::leaves;
+use crate::tickets;
+use crate::told;
+use crate::verdict;
+use crate::verdict::Verdict;
+use geometry::Size;
+use starts::Begun;
+use steps::Head;
+
+// The call that is open: its kind, 0 where none is, and its line.
+pub struct Call {
+    pub kind: u32,
+    pub at: u64,
+}
+
+// What is kept from line to line beside the tables: the head that the list tells of, what our last call gave, and the call
+// that is open.
+pub struct Kept {
+    pub told: Head,
+    pub ours: Begun,
+    pub call: Call,
+}
+
+// What is kept after a line, and what is found of it.
+pub struct Step {
+    pub kept: Kept,
+    pub verdict: Verdict,
+}
+
+fn no_call() -> Call {
+    Call { kind: 0, at: 0 }
+}
+
+// What is kept before the first line.
+pub fn nothing_yet(line: &[u32; 128]) -> Kept {
+    let head = told::untold(told::sheet_on(line), told::options_on(line));
+    Kept {
+        told: head,
+        ours: Begun {
+            answer: 0,
+            head: head,
+        },
+        call: no_call(),
+    }
+}
+
+fn fault(kept: Kept) -> Step {
+    Step {
+        kept: kept,
+        verdict: Verdict::Fault,
+    }
+}
+
+fn with_sheet(head: Head, sheet: Size) -> Head {
+    let mut after = head;
+    after.sheet = sheet;
+    after
+}
+
+// The head that is told of after a line of kind 1, 5 or 6, as far as that line says it.
+fn told_after(
+    line: &[u32; 128],
+    words: &mut [u32; 2048],
+    generations: &mut [u8; 256],
+    lists: &mut [[u32; 1024]; 3],
+    head: Head,
+) -> Head {
+    let mut after = head;
+    match line[0] {
+        1 => {
+            told::forget(words, generations, lists);
+            after = told::untold(told::sheet_on(line), told::options_on(line));
+        }
+        6 => {
+            after.sheet = told::sheet_on(line);
+            after.options = told::options_on(line);
+        }
+        _ => {}
+    }
+    after
+}
+
+// 1 w h aw ah small large, 5, and 6 w h aw ah small large
+fn open(
+    line: &[u32; 128],
+    told_words: &mut [u32; 2048],
+    told_generations: &mut [u8; 256],
+    told_lists: &mut [[u32; 1024]; 3],
+    words: &mut [u32; 2048],
+    generations: &mut [u8; 256],
+    small: &mut [u32; 1024],
+    medium: &mut [u32; 1024],
+    large: &mut [u32; 1024],
+    kept: Kept,
+    at: u64,
+) -> Step {
+    let call = kept.call;
+    let before = kept.told;
+    let last = kept.ours;
+    let head = last.head;
+    if call.kind != 0 {
+        return fault(kept);
+    }
+    let ours = calls::made(
+        line,
+        told_words,
+        told_generations,
+        told_lists,
+        words,
+        generations,
+        small,
+        medium,
+        large,
+        before,
+        head,
+    );
+    let after = told_after(line, told_words, told_generations, told_lists, before);
+    Step {
+        kept: Kept {
+            told: after,
+            ours: ours,
+            call: Call {
+                kind: line[0],
+                at: at,
+            },
+        },
+        verdict: Verdict::Told,
+    }
+}
+
+// What is found of the line of a call that is not replayed yet.
+fn ticket(line: &[u32; 128]) -> Verdict {
+    match line[0] {
+        2 => tickets::allocate(line),
+        3 => tickets::deallocate(line),
+        _ => Verdict::Later,
+    }
+}
+
+// The head after a line of kind 2, 3 or 4, as far as that line says it: grow changes the sheet.
+fn grown(line: &[u32; 128], head: Head) -> Head {
+    if line[0] == 4 {
+        return with_sheet(head, told::sheet_on(line));
+    }
+    head
+}
+
+// 2 w h answer ticket x0 y0 x1 y1, 3 ticket, and 4 w h
+fn open_later(line: &[u32; 128], kept: Kept, at: u64) -> Step {
+    let call = kept.call;
+    let head = kept.told;
+    if call.kind != 0 {
+        return fault(kept);
+    }
+    let last = kept.ours;
+    Step {
+        kept: Kept {
+            told: grown(line, head),
+            ours: last,
+            call: Call {
+                kind: line[0],
+                at: at,
+            },
+        },
+        verdict: ticket(line),
+    }
+}
+
+// What is found of the line that tells of a call of this kind.
+fn telling(kind: u32) -> Verdict {
+    if calls::is_replayed(kind) {
+        return Verdict::Told;
+    }
+    Verdict::Later
+}
+
+// 10 to 14
+fn change(
+    line: &[u32; 128],
+    words: &mut [u32; 2048],
+    generations: &mut [u8; 256],
+    lists: &mut [[u32; 1024]; 3],
+    kept: Kept,
+) -> Step {
+    let call = kept.call;
+    let head = kept.told;
+    if call.kind == 0 {
+        return fault(kept);
+    }
+    if !told::change(line, words, generations, lists) {
+        return fault(kept);
+    }
+    let mut after = kept;
+    after.told = told::changed(line, head);
+    Step {
+        kept: after,
+        verdict: telling(call.kind),
+    }
+}
+
+// Whether a line of kind 9 can close this call, and says something that is compared.
+fn is_due(line: &[u32; 128], call: Call) -> Verdict {
+    if call.kind == 0 {
+        return Verdict::Fault;
+    }
+    if line[1] > 1 {
+        return Verdict::Fault;
+    }
+    telling(call.kind)
+}
+
+// After each call that is replayed so far the atlas is empty.
+fn is_same(
+    line: &[u32; 128],
+    told_words: &[u32; 2048],
+    told_generations: &[u8; 256],
+    told_lists: &[[u32; 1024]; 3],
+    words: &[u32; 2048],
+    generations: &[u8; 256],
+    small: &[u32; 1024],
+    medium: &[u32; 1024],
+    large: &[u32; 1024],
+    head: Head,
+    ours: Begun,
+) -> bool {
+    if line[1] != 1 {
+        return false;
+    }
+    if !agree::same_head(head, ours) {
+        return false;
+    }
+    agree::same_tables(
+        told_words,
+        told_generations,
+        told_lists,
+        words,
+        generations,
+        small,
+        medium,
+        large,
+        head,
+    )
+}
+
+// What is kept once the call is closed.
+fn closed(kept: Kept) -> Kept {
+    let mut after = kept;
+    after.call = no_call();
+    after
+}
+
+// 9 empty
+fn close(
+    line: &[u32; 128],
+    told_words: &[u32; 2048],
+    told_generations: &[u8; 256],
+    told_lists: &[[u32; 1024]; 3],
+    words: &[u32; 2048],
+    generations: &[u8; 256],
+    small: &[u32; 1024],
+    medium: &[u32; 1024],
+    large: &[u32; 1024],
+    kept: Kept,
+) -> Verdict {
+    let call = kept.call;
+    let head = kept.told;
+    let ours = kept.ours;
+    let due = is_due(line, call);
+    match due {
+        Verdict::Told => {
+            let same = is_same(
+                line,
+                told_words,
+                told_generations,
+                told_lists,
+                words,
+                generations,
+                small,
+                medium,
+                large,
+                head,
+                ours,
+            );
+            verdict::told(same)
+        }
+        _ => due,
+    }
+}
+
+// What is found of a line that is about no call.
+fn leaf(line: &[u32; 128]) -> Verdict {
+    match line[0] {
+        20 => leaves::bucket(line),
+        21 => leaves::rounding(line),
+        22 => leaves::cut(line),
+        _ => Verdict::Later,
+    }
+}
+
+// Takes a line that has as many numbers as its kind asks.
+pub fn take(
+    line: &[u32; 128],
+    told_words: &mut [u32; 2048],
+    told_generations: &mut [u8; 256],
+    told_lists: &mut [[u32; 1024]; 3],
+    words: &mut [u32; 2048],
+    generations: &mut [u8; 256],
+    small: &mut [u32; 1024],
+    medium: &mut [u32; 1024],
+    large: &mut [u32; 1024],
+    kept: Kept,
+    at: u64,
+) -> Step {
+    match line[0] {
+        1 | 5 | 6 => open(
+            line,
+            told_words,
+            told_generations,
+            told_lists,
+            words,
+            generations,
+            small,
+            medium,
+            large,
+            kept,
+            at,
+        ),
+        2..=4 => open_later(line, kept, at),
+        9 => {
+            let verdict = close(
+                line,
+                told_words,
+                told_generations,
+                told_lists,
+                words,
+                generations,
+                small,
+                medium,
+                large,
+                kept,
+            );
+            Step {
+                kept: closed(kept),
+                verdict: verdict,
+            }
+        }
+        10..=14 => change(line, told_words, told_generations, told_lists, kept),
+        _ => Step {
+            kept: kept,
+            verdict: leaf(line),
+        },
+    }
+}

@@ -1,0 +1,171 @@
+// The state that the list tells of: its tables, of 256 slots and 1,024 entries a list, and the head. A change at a place
+// that the tables don't have, or to a number that they can't have, is not made.
+use geometry::AllocatorOptions;
+use geometry::Size;
+use lists::Lengths;
+use slots::AllocIndex;
+use steps::Head;
+ghost use Prim.Native.Nat.{_+_, _<_};
+
+// The sides that stand at this place and the one after it.
+fn size_at(line: &[u32; 128], at: usize) -> Size
+    requires { ⌜ at + 1 < 128 ⌝ }
+{
+    Size {
+        width: reading::signed(line[at]),
+        height: reading::signed(line[at + 1]),
+    }
+}
+
+// The size on a line of kind 1, 4 or 6.
+pub fn sheet_on(line: &[u32; 128]) -> Size {
+    size_at(line, 1)
+}
+
+// The options on a line of kind 1 or 6.
+pub fn options_on(line: &[u32; 128]) -> AllocatorOptions {
+    AllocatorOptions {
+        alignment: size_at(line, 3),
+        small: reading::signed(line[5]),
+        large: reading::signed(line[6]),
+    }
+}
+
+// A head of which the list has told nothing but the sheet and the options: the counts and lengths are such as no tables
+// here have, and the links such as no start gives.
+pub fn untold(sheet: Size, options: AllocatorOptions) -> Head {
+    Head {
+        sheet: sheet,
+        options: options,
+        root: AllocIndex(slots::NONE),
+        spare: AllocIndex(0),
+        count: 257,
+        lengths: Lengths {
+            small: 1025,
+            medium: 1025,
+            large: 1025,
+        },
+    }
+}
+
+// Forgets the tables: they hold what no start writes.
+pub fn forget(words: &mut [u32; 2048], generations: &mut [u8; 256], lists: &mut [[u32; 1024]; 3]) {
+    let list = [4294967295u32; 1024];
+    let three = [list; 3];
+    *words = [4294967295; 2048];
+    *generations = [255; 256];
+    *lists = three;
+}
+
+fn place(number: u32) -> usize {
+    number as usize
+}
+
+// 10 slot parent next prev code x0 y0 x1 y1
+fn slot(line: &[u32; 128], words: &mut [u32; 2048]) -> bool {
+    let slot = place(line[1]);
+    if slot >= 256 {
+        return false;
+    }
+    let at = slot * 8;
+    words[at] = line[2];
+    words[at + 1] = line[3];
+    words[at + 2] = line[4];
+    words[at + 3] = line[5];
+    words[at + 4] = line[6];
+    words[at + 5] = line[7];
+    words[at + 6] = line[8];
+    words[at + 7] = line[9];
+    true
+}
+
+// 11 slot generation
+fn generation(line: &[u32; 128], generations: &mut [u8; 256]) -> bool {
+    let slot = place(line[1]);
+    let value = line[2];
+    if slot >= 256 {
+        return false;
+    }
+    if value > 255 {
+        return false;
+    }
+    generations[slot] = value as u8;
+    true
+}
+
+// 13 bucket place entry
+fn entry(line: &[u32; 128], lists: &mut [[u32; 1024]; 3]) -> bool {
+    let bucket = place(line[1]);
+    let at = place(line[2]);
+    if bucket >= 3 {
+        return false;
+    }
+    if at >= 1024 {
+        return false;
+    }
+    lists[bucket][at] = line[3];
+    true
+}
+
+// Whether a line of kind 12 or 14 has numbers that the tables can have.
+fn is_in_range(line: &[u32; 128]) -> bool {
+    if line[0] == 14 {
+        return line[1] <= 256;
+    }
+    if line[1] > 2 {
+        return false;
+    }
+    line[2] <= 1024
+}
+
+// Makes the change of a line of kind 10 to 14 in the tables; 12 and 14 change the head only.
+pub fn change(
+    line: &[u32; 128],
+    words: &mut [u32; 2048],
+    generations: &mut [u8; 256],
+    lists: &mut [[u32; 1024]; 3],
+) -> bool {
+    match line[0] {
+        10 => slot(line, words),
+        11 => generation(line, generations),
+        13 => entry(line, lists),
+        _ => is_in_range(line),
+    }
+}
+
+// 12 bucket length
+fn with_length(lengths: Lengths, bucket: u32, length: u32) -> Lengths {
+    let mut after = lengths;
+    match bucket {
+        0 => {
+            after.small = length as usize;
+        }
+        1 => {
+            after.medium = length as usize;
+        }
+        _ => {
+            after.large = length as usize;
+        }
+    }
+    after
+}
+
+// The head after a change that could be made.
+pub fn changed(line: &[u32; 128], head: Head) -> Head {
+    let lengths = head.lengths;
+    let root = AllocIndex(line[2]);
+    let spare = AllocIndex(line[3]);
+    let mut after = head;
+    match line[0] {
+        12 => {
+            after.lengths = with_length(lengths, line[1], line[2]);
+        }
+        14 => {
+            after.count = line[1];
+            after.root = root;
+            after.spare = spare;
+        }
+        _ => {}
+    }
+    after
+}
