@@ -138,19 +138,23 @@ module _ (get get′ : ℕ → Seen) (n n′ i : ℕ) (lv : Live get n i) (free 
 -- EACH KEEPS THE RULES
 module _ (get get′ : ℕ → Seen) (n n′ root i : ℕ) (L : Linked get n root) (all : Rectangle) (P : PlaceChain get n root all)
     (lv : Live get n i) (free : get i .kind ≡ Free) where
+  -- A cut along, no leftover, keeps the rules.
   pub along-keeps : (s : ℕ) (q t : Rectangle) → Taken get n n′ (s ∷ []) → NotEmpty q → NotEmpty t → Along get get′ i s q t → Kept get get′ n n′ root
   along-keeps s q t W x y op =
       leaf-step-keeps get get′ n n′ root i (W .grow) L all P lv (inr free) (λ S. (_, along-swapped get get′ n n′ i lv free s q t W x y op S))
 
+  -- So does one along with a leftover,
   pub along-left-keeps : (s a l : ℕ) (q u t : Rectangle) → Taken get n n′ (s ∷ a ∷ l ∷ []) → NotEmpty q → NotEmpty u → NotEmpty t
       → AlongLeft get get′ i s a l q u t → Kept get get′ n n′ root
   along-left-keeps s a l q u t W x y z op =
       leaf-step-keeps get get′ n n′ root i (W .grow) L all P lv (inr free) (λ S. (_, along-left-swapped get get′ n n′ i lv free s a l q u t W x y z op S))
 
+  -- one across, no leftover,
   pub across-keeps : (s a : ℕ) (q t : Rectangle) → Taken get n n′ (a ∷ s ∷ []) → NotEmpty q → NotEmpty t → Across get get′ i s a q t → Kept get get′ n n′ root
   across-keeps s a q t W x y op =
       leaf-step-keeps get get′ n n′ root i (W .grow) L all P lv (inr free) (λ S. (_, across-swapped get get′ n n′ i lv free s a q t W x y op S))
 
+  -- and one across with a leftover.
   pub across-left-keeps : (s c a l : ℕ) (z q u t : Rectangle) → Taken get n n′ (c ∷ a ∷ l ∷ s ∷ []) → NotEmpty q → NotEmpty u → NotEmpty t
       → AcrossLeft get get′ i s c a l z q u t → Kept get get′ n n′ root
   across-left-keeps s c a l z q u t W x y k op =

@@ -91,10 +91,12 @@ module _ (get get′ : ℕ → Seen) (n : ℕ) where
 
 -- EACH KEEPS THE RULES
 module _ (get get′ : ℕ → Seen) (n root : ℕ) (L : Linked get n root) (all : Rectangle) (P : PlaceChain get n root all) where
+  -- An Alloc slot that turns Free, or a Free one that turns Alloc, keeps the rules.
   pub rekind-keeps : (i : ℕ) (k : NodeKind) → Rekind get get′ i k → Live get n i → Leaf (get i .kind) → Leaf k → Kept get get′ n n root
   rekind-keeps i k op lv l l′ =
       leaf-step-keeps get get′ n n root i (omega arith) L all P lv l (λ S. (slot i empty S, rekind-swapped get get′ n i k op l l′ S))
 
+  -- So does a Free slot that absorbs its Free next,
   pub absorb-keeps : (i j : ℕ) → Absorb get get′ i j → Live get n i → get i .kind ≡ Free → get i .next ≡ to j → get j .kind ≡ Free → Kept get get′ n n root
   absorb-keeps i j op lv k nx kj = leaf-step-keeps get get′ n n root i (omega arith) L all P lv (inr k) go
     where
@@ -112,6 +114,7 @@ module _ (get get′ : ℕ → Seen) (n root : ℕ) (L : Linked get n root) (all
             absorb-swapped get get′ n i x (rw q at op) k (rw q at kj) S p v o r D w h,
       )
 
+  -- and a Container that takes the rectangle of its only child, a Free slot.
   pub give-up-keeps : (i c : ℕ) → GiveUp get get′ i c → Live get n c → get c .kind ≡ Free
       → get c .parent ≡ to i → get c .prev ≡ none → get c .next ≡ none → Kept get get′ n n root
   give-up-keeps i c op lv k pc vc nc = step-keeps get get′ n n root i (omega arith) L all P (L .parent-live c i lv pc) go

@@ -104,13 +104,15 @@ pub record Fair (get get′ : ℕ → Seen) (T T′ : Forest) : Type 0 where
   pub places : (r : Rectangle) → PlaceF get T r → PlaceF get′ T′ r
   pub lasts : LastF get T → LastF get′ T′
 
--- The last two, of a step that writes slots `old` of T and takes the slots `new`.
+-- A step that writes slots `old` of T and takes the slots `new`.
 module _ {get get′ : ℕ → Seen} {n n′ : ℕ} {after v : Link} (old new : List ℕ) (W : Taken get n n′ new) (E : Elsewhere get get′ (old ++ new) after v)
     (T T′ : Forest) (old-in : (j : ℕ) → In j old → In j (slots T)) (after-in : (j : ℕ) → after ≡ to j → In j (slots T)) where
+  -- No other live slot changed,
   pub swap-others : (j : ℕ) → Live get n j → (In j (slots T) → ⊥) → get′ j ≡ get j
   swap-others j l m =
       E .other j (λ w. ⊎-elim (λ x. m (old-in j x)) (λ x. W .idle j x l) (in-cases old new j w)) (λ e. m (after-in j e))
 
+  -- and a slot live now is in T′ or was live outside T.
   pub swap-all : ((j : ℕ) → In j new → In j (slots T′)) → ((j : ℕ) → In j (slots T) → Live get′ n′ j → In j (slots T′))
       → (j : ℕ) → Live get′ n′ j → In j (slots T′) ⊎ (Live get n j × (In j (slots T) → ⊥))
   swap-all new-in stays j l = go (In-dec j (slots T)) (In-dec j new)
