@@ -148,10 +148,11 @@ place-fill get n (past a C K) T i m p v o R r h =
     let w = after-placed get n (plug K T) (get a .orientation) (h .0) r i (fill-in K T i m) (h .2) in
     place-fill get n K T i m p (to a) o (R .2) (w .0) (w .1)
 
--- The place of a represented forest is the place that rule 5 gives the chain from root, and the other way.
+-- The place of a represented forest is the place that rule 5 gives the chain from root.
 pub chain-placed : (get : ℕ → Seen) (n root : ℕ) (F : Forest) → Represents get n root F → (r : Rectangle) → PlaceF get F r → PlaceChain get n root r
 chain-placed get n root F R r w = place-table get n none none (get root .orientation) F (R .along) root (R .from-root) r w
 
+-- The place that rule 5 gives the chain from root is the forest's.
 pub placed-chain : (get : ℕ → Seen) (n root : ℕ) (F : Forest) → Represents get n root F → (r : Rectangle) → PlaceChain get n root r → PlaceF get F r
 placed-chain get n root F R r w =
     table-place get n (linked get n root F R .one-child) none none (get root .orientation) F (R .along) root (R .from-root) r w

@@ -29,17 +29,19 @@ rim here = []
 rim (under i K S) = i ∷ rim K ++ slots S
 rim (past i C K) = i ∷ slots C ++ rim K
 
--- What a chain that fills the gap hangs from: its parent, its prev, and its orientation.
+-- The parent of a chain that fills the gap, where p is the whole's,
 abbrev pub parentAt : Gap → Link → Link
 parentAt here p = p
 parentAt (under i K S) p = parentAt K (to i)
 parentAt (past i C K) p = parentAt K p
 
+-- the prev of its first slot, where v is the whole's,
 abbrev pub prevAt : Gap → Link → Link
 prevAt here v = v
 prevAt (under i K S) v = prevAt K none
 prevAt (past i C K) v = prevAt K (to i)
 
+-- and its orientation, where o is the whole's.
 abbrev pub orientationAt : Gap → Orientation → Orientation
 orientationAt here o = o
 orientationAt (under i K S) o = orientationAt K (flip o)

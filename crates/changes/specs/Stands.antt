@@ -14,7 +14,7 @@ use Rattle.sound.specs.Sound.{Linked}
 use Rattle.forest.specs.Forest.{Forest, empty, slot, slots, Bare, Shape, Here, Rep}
 use Rattle.forest.specs.Place.{SlotAt, Then, PlaceF}
 use Rattle.changes.specs.Joins.{adjoins-first}
-use Rattle.changes.specs.Swaps.{Swaps, Kept, step-keeps}
+use Rattle.changes.specs.Swaps.{Swapped, Kept, step-keeps}
 
 -- The contents of a slot.
 abbrev pub cell : Link → Link → Link → NodeKind → Orientation → Rectangle → Seen
@@ -72,12 +72,12 @@ leaf-some k mine q P (inr e) h = (rw e at h) .0
 
 -- A step that swaps the chain that starts at an Alloc or Free slot keeps the rules.
 pub leaf-step-keeps : (get get′ : ℕ → Seen) (n n′ root i : ℕ) → n ≤ n′ → Linked get n root → (r : Rectangle) → PlaceChain get n root r → Live get n i
-    → Leaf (get i .kind) → ((S : Forest) → Swaps get get′ n n′ (slot i empty S)) → Kept get get′ n n′ root
+    → Leaf (get i .kind) → ((S : Forest) → (T′ : Forest) × Swapped get get′ n n′ (slot i empty S) T′) → Kept get get′ n n′ root
 leaf-step-keeps get get′ n n′ root i grow L all P lv l f = step-keeps get get′ n n′ root i grow L all P lv go
   where
-    go : (C S : Forest) → Swaps get get′ n n′ (slot i C S)
+    go : (C S : Forest) → (T′ : Forest) × Swapped get get′ n n′ (slot i C S) T′
     go empty S = f S
-    go (slot c B U) S = λ p v o r D w h. absurd (leaf-bare (get i .kind) (slot c B U) l (r .0 .shape))
+    go (slot c B U) S = (empty, λ p v o r D w h. absurd (leaf-bare (get i .kind) (slot c B U) l (r .0 .shape)))
 
 -- Two leaves in a row adjoin, and neither is empty.
 pub leaves-adjoin : (get : ℕ → Seen) (i j : ℕ) (S : Forest) (w : Rectangle) → Leaf (get i .kind) → Leaf (get j .kind) → get j .orientation ≡ get i .orientation

@@ -33,18 +33,20 @@ top-orientation here e o = refl
 top-orientation (under a K S) e o = absurd (deep-parent K a e)
 top-orientation (past a C K) e o = top-orientation K e o
 
--- A forest has one place.
+-- A slot has one place, if its children have,
 slot-once : (k : NodeKind) (m : Rectangle) (P : Rectangle → Type 0) → ((q r : Rectangle) → P q → P r → q ≡ r) → (q r : Rectangle) → SlotAt k m P q → SlotAt k m P r → q ≡ r
 slot-once Container m P f q r x y = f q r x y
 slot-once Alloc m P f q r x y = x .1 ∙ sym (y .1)
 slot-once Free m P f q r x y = x .1 ∙ sym (y .1)
 slot-once Unused m P f q r x y = absurd x
 
+-- and a chain, if its rest has.
 then-once : (S : Forest) (o : Orientation) (u w : Rectangle) (P : Rectangle → Type 0) → u ≡ w → ((q r : Rectangle) → P q → P r → q ≡ r)
     → (q r : Rectangle) → Then S o u P q → Then S o w P r → q ≡ r
 then-once empty o u w P e f q r x y = x ∙ (e ∙ sym y)
 then-once (slot j B U) o u w P e f q r x y = rw (x .3, y .3, e, f (x .0) (y .0) (x .1) (y .1)) refl
 
+-- So a forest has one place.
 pub place-once : (get : ℕ → Seen) (F : Forest) (q r : Rectangle) → PlaceF get F q → PlaceF get F r → q ≡ r
 place-once get empty q r x y = absurd x
 place-once get (slot i C S) q r x y =
@@ -86,6 +88,7 @@ last-past : (get : ℕ → Seen) (a : ℕ) (C S : Forest) (i : ℕ) → In i (sl
 last-past get a C empty i m l = absurd m
 last-past get a C (slot j B U) i m l = l
 
+-- So a top chain obeys it whose last part does.
 last-top : (get : ℕ → Seen) (K : Gap) (T : Forest) (i : ℕ) → In i (slots T) → parentAt K none ≡ none → LastF get T → LastF get (plug K T)
 last-top get here T i m top l = l
 last-top get (under a K S) T i m top l = absurd (deep-parent K a top)

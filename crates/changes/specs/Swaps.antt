@@ -104,13 +104,15 @@ pub record Fair (get get′ : ℕ → Seen) (T T′ : Forest) : Type 0 where
   pub places : (r : Rectangle) → PlaceF get T r → PlaceF get′ T′ r
   pub lasts : LastF get T → LastF get′ T′
 
--- The last two, of a step that writes slots `old` of T and takes the slots `new`.
+-- A step that writes slots `old` of T and takes the slots `new`.
 module _ {get get′ : ℕ → Seen} {n n′ : ℕ} {after v : Link} (old new : List ℕ) (W : Taken get n n′ new) (E : Elsewhere get get′ (old ++ new) after v)
     (T T′ : Forest) (old-in : (j : ℕ) → In j old → In j (slots T)) (after-in : (j : ℕ) → after ≡ to j → In j (slots T)) where
+  -- No other live slot changed,
   pub swap-others : (j : ℕ) → Live get n j → (In j (slots T) → ⊥) → get′ j ≡ get j
   swap-others j l m =
       E .other j (λ w. ⊎-elim (λ x. m (old-in j x)) (λ x. W .idle j x l) (in-cases old new j w)) (λ e. m (after-in j e))
 
+  -- and a slot live now is in T′ or was live outside T.
   pub swap-all : ((j : ℕ) → In j new → In j (slots T′)) → ((j : ℕ) → In j (slots T) → Live get′ n′ j → In j (slots T′))
       → (j : ℕ) → Live get′ n′ j → In j (slots T′) ⊎ (Live get n j × (In j (slots T) → ⊥))
   swap-all new-in stays j l = go (In-dec j (slots T)) (In-dec j new)
@@ -173,18 +175,30 @@ at-slot get n root i L r P lv =
     let w = place-fill get n (c .0) T i (inl refl) none none (get root .orientation) (R .along) r (placed-chain get n root (plug (c .0) T) R r P) in
     record { gap = c .0; below = c .1; after = c .2; whole = R; place = w .0; placed = w .1 }
 
--- Wherever the chain T hangs, it is swapped fairly for another.
-abbrev pub Swaps : (ℕ → Seen) → (ℕ → Seen) → ℕ → ℕ → Forest → Type 0
-Swaps get get′ n n′ T = (p v : Link) (o : Orientation) → Rep get n p v o T → Distinct (slots T) → (w : Rectangle) → PlaceF get T w
-    → (T′ : Forest) × (Swap get get′ n n′ p v o T T′ × Fair get get′ T T′)
+-- Wherever the chain T hangs, it is swapped fairly for T′.
+abbrev pub Swapped : (ℕ → Seen) → (ℕ → Seen) → ℕ → ℕ → Forest → Forest → Type 0
+Swapped get get′ n n′ T T′ = (p v : Link) (o : Orientation) → Rep get n p v o T → Distinct (slots T) → (w : Rectangle) → PlaceF get T w
+    → Swap get get′ n n′ p v o T T′ × Fair get get′ T T′
 
--- A step that swaps fairly the chain that starts at slot i keeps the rules.
-pub step-keeps : (get get′ : ℕ → Seen) (n n′ root i : ℕ) → n ≤ n′ → Linked get n root → (r : Rectangle) → PlaceChain get n root r → Live get n i
-    → ((C S : Forest) → Swaps get get′ n n′ (slot i C S)) → Kept get get′ n n′ root
-step-keeps get get′ n n′ root i grow L r P lv f =
-    let a = at-slot get n root i L r P lv in
-    let T = slot i (a .below) (a .after) in
-    let D = rep-distinct get n none none (get root .orientation) (plug (a .gap) T) (a .whole .along) 0 refl in
-    let R = rep-fill get n (a .gap) T none none (get root .orientation) (a .whole .along) in
-    let s = f (a .below) (a .after) _ _ _ R (distinct-fill (a .gap) T D) (a .place) (a .placed) in
-    swap-keeps get get′ n n′ root grow (a .gap) T (s .0) (a .whole) (s .1 .0) (s .1 .1)
+module _ (get get′ : ℕ → Seen) (n n′ root i : ℕ) (grow : n ≤ n′) where
+  -- So it is where it hangs,
+  swap-at : (a : At get n root i) (T′ : Forest) → Swapped get get′ n n′ (slot i (a .below) (a .after)) T′
+      → Swap get get′ n n′ (parentAt (a .gap) none) (prevAt (a .gap) none) (orientationAt (a .gap) (get root .orientation)) (slot i (a .below) (a .after)) T′
+      × Fair get get′ (slot i (a .below) (a .after)) T′
+  swap-at a T′ s =
+      let T = slot i (a .below) (a .after) in
+      let D = rep-distinct get n none none (get root .orientation) (plug (a .gap) T) (a .whole .along) 0 refl in
+      s _ _ _ (rep-fill get n (a .gap) T none none (get root .orientation) (a .whole .along)) (distinct-fill (a .gap) T D) (a .place) (a .placed)
+
+  -- the table is the forest with T′ for T,
+  pub step-represents : (a : At get n root i) (T′ : Forest) → Swapped get get′ n n′ (slot i (a .below) (a .after)) T′ → Represents get′ n′ root (plug (a .gap) T′)
+  step-represents a T′ s = swap-represents get get′ n n′ root grow (a .gap) (slot i (a .below) (a .after)) T′ (a .whole) (swap-at a T′ s .0)
+
+  -- and the rules are kept.
+  pub step-keeps : Linked get n root → (r : Rectangle) → PlaceChain get n root r → Live get n i
+      → ((C S : Forest) → (T′ : Forest) × Swapped get get′ n n′ (slot i C S) T′) → Kept get get′ n n′ root
+  step-keeps L r P lv f =
+      let a = at-slot get n root i L r P lv in
+      let s = f (a .below) (a .after) in
+      let w = swap-at a (s .0) (s .1) in
+      swap-keeps get get′ n n′ root grow (a .gap) (slot i (a .below) (a .after)) (s .0) (a .whole) (w .0) (w .1)

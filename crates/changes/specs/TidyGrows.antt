@@ -72,27 +72,23 @@ root-merged get get′ n n′ root a b o z t L W op some M = record { apart = ap
         (λ e. ⊎-elim (λ x. no-link (sym (ap (λ x. get′ x .next) e ∙ ap (λ x. x .next) (op .free)) ∙ x))
         (λ x. no-link (sym (ap (λ x. get′ x .parent) e ∙ ap (λ x. x .parent) (op .free)) ∙ x)) h) (λ x. x)) m
 
-    apart : (u v : ℕ) → Live get′ n′ u → get′ u .next ≡ to v → get′ u .kind ≡ Free → get′ v .kind ≡ Free → ⊥
-    apart u v l e f g = go (In-dec u (a ∷ b ∷ []))
+    -- Each slot live now is new, or was live.
+    split : (u : ℕ) → Live get′ n′ u → In u (a ∷ b ∷ []) ⊎ (Live get n u × Moved (get u) (get′ u))
+    split u l = go (In-dec u (a ∷ b ∷ []))
       where
-        go : Dec (In u (a ∷ b ∷ [])) → ⊥
-        go (yes m) = new u v m f (inl e)
-        go (no m) =
-            let lu = root-live get get′ n n′ a b o z t W op u m l in
-            let w = moved u lu in
-            let x = sym (w .next) ∙ e in
-            M .apart u v lu x (sym (w .kind) ∙ f) (sym (moved v (L .next-live u v lu x) .kind) ∙ g)
+        go : Dec (In u (a ∷ b ∷ [])) → In u (a ∷ b ∷ []) ⊎ (Live get n u × Moved (get u) (get′ u))
+        go (yes m) = inl m
+        go (no m) = let lu = root-live get get′ n n′ a b o z t W op u m l in inr (lu, moved u lu)
+
+    apart : (u v : ℕ) → Live get′ n′ u → get′ u .next ≡ to v → get′ u .kind ≡ Free → get′ v .kind ≡ Free → ⊥
+    apart u v l e f g =
+        ⊎-elim (λ m. new u v m f (inl e))
+        (λ w. let x = sym (w .1 .next) ∙ e in M .apart u v (w .0) x (sym (w .1 .kind) ∙ f) (sym (moved v (L .next-live u v (w .0) x) .kind) ∙ g)) (split u l)
 
     sibling : (u p : ℕ) → Live get′ n′ u → get′ u .kind ≡ Free → get′ u .parent ≡ to p → get′ u .next ≡ none → get′ u .prev ≡ none → ⊥
-    sibling u p l f q e v = go (In-dec u (a ∷ b ∷ []))
-      where
-        go : Dec (In u (a ∷ b ∷ [])) → ⊥
-        go (yes m) = new u p m f (inr q)
-        go (no m) =
-            let lu = root-live get get′ n n′ a b o z t W op u m l in
-            let w = moved u lu in
-            let k = sym (w .kind) ∙ f in
-            let x = sym (w .next) ∙ e in
-            let y = sym (w .prev) ∙ v in
-            ⊎-elim (λ s. M .sibling u p lu k (sym s ∙ q) x y)
-            (λ s. let r = L .root-only u lu s y in some (rw r at k) (rw r at x)) (w .parent)
+    sibling u p l f q e v =
+        ⊎-elim (λ m. new u p m f (inr q))
+        (λ w. let k = sym (w .1 .kind) ∙ f in
+        let x = sym (w .1 .next) ∙ e in
+        let y = sym (w .1 .prev) ∙ v in
+        ⊎-elim (λ s. M .sibling u p (w .0) k (sym s ∙ q) x y) (λ s. let r = L .root-only u (w .0) s y in some (rw r at k) (rw r at x)) (w .1 .parent)) (split u l)

@@ -76,6 +76,7 @@ module _ (get get′ : ℕ → Seen) (n n′ : ℕ) (p v : Link) (o : Orientatio
         last empty f h = λ k. rw (stored k) (rw k at (st .place))
         last (slot j B X) f h = f h
 
+    -- Both together.
     pub one-swapped : (q : Rectangle) → Was get i C q → Stands get′ n′ p v o i C′ (head S) q
         → (get′ i .kind ≡ Container → get′ i .rect ≡ q) → ((j : ℕ) → In j new → In j (slots C′))
         → ((j : ℕ) → In j (slots C) → Live get′ n′ j → In j (slots C′))
@@ -90,6 +91,7 @@ module _ (get get′ : ℕ → Seen) (n n′ : ℕ) (p v : Link) (o : Orientatio
         moved-carried S E (r .0 .next)
         (λ j m. ⊎-elim (λ e. D .0 (rw e at m)) (λ x. W .idle j x (in-live get n p (to i) o S (r .2) j m)))
 
+    -- That is a fair swap.
     pub two-swapped : (q t : Rectangle) → Was get i empty (join q t) → Stands get′ n′ p v o i C′ (to s) q
         → Stands get′ n′ p (to i) o s empty (head S) t → Adjoin o q t → get′ s .kind ≡ Free
         → ((j : ℕ) → In j new → (j ≡ s) ⊎ In j (slots C′))
@@ -147,6 +149,7 @@ module _ (get get′ : ℕ → Seen) (n n′ : ℕ) (p v : Link) (o : Orientatio
         moved-carried S E (r .2 .0 .next)
         (λ x m. ⊎-elim (λ e. D .0 (inr (rw e at m))) (⊎-elim (λ e. D .1 .0 (rw e at m)) (λ x. x)))
 
+    -- So is that.
     pub one-of-two : (q t : Rectangle) → Was get i empty q → Was get j empty t → Stands get′ n′ p v o i empty (head S) (join q t)
         → get′ i .kind ≡ Free → get′ j .kind ≡ Unused
         → Swap get get′ n n′ p v o (slot i empty (slot j empty S)) (slot i empty S) × Fair get get′ (slot i empty (slot j empty S)) (slot i empty S)
