@@ -174,7 +174,8 @@ fn take_next(
     }
 }
 
-// Nothing says that the input ends, so the loop counts its turns down from a number that no run uses up.
+// Our tables begin with numbers that a start has to write over. Nothing says that the input ends, so the loop counts its
+// turns down from a number that no run uses up.
 fn read_all(counts: &mut [u64; 32]) -> Tally {
     let mut line = [0u32; 128];
     let mut buffer = io::large_buffer();
@@ -182,11 +183,11 @@ fn read_all(counts: &mut [u64; 32]) -> Tally {
     let mut told_generations = [0u8; 256];
     let list = [0u32; 1024];
     let mut told_lists = [list; 3];
-    let mut words = [0u32; 2048];
-    let mut generations = [0u8; 256];
-    let mut small = [0u32; 1024];
-    let mut medium = [0u32; 1024];
-    let mut large = [0u32; 1024];
+    let mut words = [7u32; 2048];
+    let mut generations = [7u8; 256];
+    let mut small = [7u32; 1024];
+    let mut medium = [7u32; 1024];
+    let mut large = [7u32; 1024];
     let mut pass = Pass {
         run: Run {
             kept: take::nothing_yet(&line),
