@@ -12,7 +12,7 @@ use Rattle.slots.specs.SlotLaws.{same-kind-equal}
 use Rattle.slots.specs.declared.AllocIndex.{AllocIndex}
 use Rattle.slots.specs.declared.NodeKind.{NodeKind}
 use Rattle.slots.specs.declared.NodeKind.the-variants.{Unused}
-use Rattle.steps.specs.Spares.{unusedAt, unusedBelow}
+use Rattle.steps.specs.Spares.{ofKind, countKind, unusedBelow}
 use Rattle.sound.specs.View.{Link, to, linkOf, seen, inUse, Dead}
 use Rattle.sound.specs.Rules.{Visits, it, later}
 use Rattle.sound.specs.Sound.{SpareChain}
@@ -24,8 +24,8 @@ use Rattle.links.specs.TestLaws.{Says, both-say, says-as, less-says, kin
 use Rattle.links.specs.LinkLaws.{link-none, link-some, link-of-slot, link-names, unused-kind}
 
 -- The slots that are Unused are counted as such, and the others are live.
-unused-bit : (w : List ℕ) (i : ℕ) → unusedAt w i ≡ bit (isDead (seen w) i)
-unfolding unusedAt seen
+unused-bit : (w : List ℕ) (i : ℕ) → ofKind w Unused i ≡ bit (isDead (seen w) i)
+unfolding ofKind seen
 unused-bit w i = rw (unused-kind (nodeAt w (slot i) .kind)) (go (not (inUse (nodeAt w (slot i) .kind))))
   where
     go : (b : Bool) → pick b 1 0 ≡ bit b
@@ -33,12 +33,12 @@ unused-bit w i = rw (unused-kind (nodeAt w (slot i) .kind)) (go (not (inUse (nod
     go false = refl
 
 pub unused-count : (w : List ℕ) (n : ℕ) → count (isDead (seen w)) n ≡ unusedBelow w n
-unfolding count unusedBelow
+unfolding count countKind
 unused-count w zero = refl
 unused-count w (suc n) = let r = unused-count w n in let b = unused-bit w n in omega arith
 
 all-counted : (w : List ℕ) (n : ℕ) → count (λ j. inUse (seen w j .kind)) n + unusedBelow w n ≡ n
-unfolding count unusedBelow
+unfolding count countKind
 all-counted w zero = refl
 all-counted w (suc n) =
     let r = all-counted w n in let b = unused-bit w n in let o = one (inUse (seen w n .kind)) in omega arith

@@ -8,6 +8,7 @@ use Rattle.geometry.specs.Choice.{pick}
 use Rattle.slots.specs.Slots.{slot, sameKind, nodeAt}
 use Rattle.slots.specs.Stores.{stored, toKind, toNext}
 use Rattle.slots.specs.declared.AllocIndex.{AllocIndex}
+use Rattle.slots.specs.declared.NodeKind.{NodeKind}
 use Rattle.slots.specs.declared.NodeKind.the-variants.{Unused}
 use Rattle.steps.specs.declared.Head.{Head}
 
@@ -57,14 +58,17 @@ freed h w = record { head = h; words = w }
 unfoldable pub markUnused : List ℕ → Head → AllocIndex → Freed
 markUnused w h i = freed (withSpare h i) (stored (stored w i (toKind Unused)) i (toNext (h .spare)))
 
--- 1 where slot i is Unused, else 0.
-unfoldable pub unusedAt : List ℕ → ℕ → ℕ
-unusedAt w i = pick (sameKind (nodeAt w (slot i) .kind) Unused) 1 0
+-- 1 where slot i is of the kind, else 0.
+unfoldable pub ofKind : List ℕ → NodeKind → ℕ → ℕ
+ofKind w kind i = pick (sameKind (nodeAt w (slot i) .kind) kind) 1 0
 
--- How many of the first n slots are Unused.
-unfoldable pub unusedBelow : List ℕ → ℕ → ℕ
-unusedBelow w zero = 0
-unusedBelow w (suc n) = unusedBelow w n + unusedAt w n
+-- How many of the first n slots are of the kind, and how many are Unused.
+unfoldable pub countKind : List ℕ → NodeKind → ℕ → ℕ
+countKind w kind zero = 0
+countKind w kind (suc n) = countKind w kind n + ofKind w kind n
+
+abbrev pub unusedBelow : List ℕ → ℕ → ℕ
+unusedBelow w n = countKind w Unused n
 
 -- Spare slots are N − n plus all Unused ones.
 abbrev pub spareSlots : List ℕ → ℕ → ℕ → ℕ

@@ -1,9 +1,9 @@
 use mathlib.Core.Path.{sym, _∙_}
 use native.Mathlib.Omega.{arith}
-use Rattle.steps.specs.Spares.{unusedAt}
+use Rattle.steps.specs.Spares.{ofKind}
 use borrow.Author.Needs.{needs}
-use Rattle.steps.proofs.unused_at.Statement.{statement}
-use Rattle.steps.proofs.unused_at.Tie as tie
+use Rattle.steps.proofs.of_kind.Statement.{statement}
+use Rattle.steps.proofs.of_kind.Tie as tie
 
 node-at-requires : tie.Need-node-at-requires
 node-at-requires c κs = search needs
@@ -12,12 +12,12 @@ same-kind-requires : tie.Need-same-kind-requires
 same-kind-requires c κs = search needs
 
 returns : tie.Need-returns
-unfolding unusedAt
+unfolding ofKind
 returns c = (rw (← c .before .before .node-at .ensures, sym (c .before .same-kind .ensures) ∙ c .if1 .taken), omega arith)
 
 returns-2 : tie.Need-returns-2
-unfolding unusedAt
+unfolding ofKind
 returns-2 c = (rw (← c .before .before .node-at .ensures, sym (c .before .same-kind .ensures) ∙ c .if1 .left), omega arith)
 
-pub unused-at-spec : {M : Type 1} → statement M
-unused-at-spec = tie.close (tie.spec node-at-requires same-kind-requires returns returns-2)
+pub of-kind-spec : {M : Type 1} → statement M
+of-kind-spec = tie.close (tie.spec node-at-requires same-kind-requires returns returns-2)
