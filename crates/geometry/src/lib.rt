@@ -211,7 +211,7 @@ pub fn free_list_for_size(small: u32, large: u32, w: u32, h: u32) -> Bucket
 }
 
 // The rectangle that stands for none.
-fn no_rect() -> Rectangle
+pub fn no_rect() -> Rectangle
     ensures { λ r. ⌜ r ≡ noRect ⌝ }
 {
     Rectangle {

@@ -1,0 +1,60 @@
+-- Of a call that checks first: no other outcome meets its contract; when it gives 1 and 2; and that what it does on sound tables, it does there alone.
+-- Assumes nothing.
+use mathlib.Core.Path.{_≡_, refl, ap, sym, _∙_}
+use mathlib.Core.Logic.{_↔_, _⊎_, ⊎-elim}
+use Prim.Native.Nat.{ℕ}
+use native.Mathlib.Omega.{arith}
+use Rattle.steps.specs.State.{State}
+use Rattle.sound.specs.Sound.{Sound}
+use Rattle.starts.specs.StartWhen.{LentOf}
+use Rattle.audit.specs.Audited.{Checked}
+use Rattle.audit.specs.Exact.{check-is-exact}
+use Rattle.views.specs.Answers.{Given, given, afterCheck, Answers}
+
+module _ {A : Type 0} {nothing : A} {s : State} {core : Given A} where
+  -- NO OTHER OUTCOME. Two outcomes that meet the contract are the same: answer, what is handed over, head and tables.
+  pub answers-once : {o p : Given A} → Answers nothing s core o → Answers nothing s core p → o ≡ p
+  answers-once a b = a .is ∙ (ap (afterCheck nothing s core) (check-is-exact (b .checked) (a .checked) .1) ∙ sym (b .is))
+
+  -- The three ways that a call can go.
+  pub answers-cases : {o : Given A} → Answers nothing s core o → (P : Given A → Type 0)
+      → ((LentOf s → ⊥) → P (given 1 nothing s)) → (LentOf s → (Sound s → ⊥) → P (given 2 nothing s)) → (LentOf s → Sound s → P core) → P o
+  unfolding afterCheck
+  answers-cases a P one two done =
+      rw (a .is) (⊎-elim {C = Goal (a .code)} (λ e. let h = a .checked .gives-0 .0 e in rw e (done (h .0) (h .1)))
+      (⊎-elim {C = Goal (a .code)} (λ e. rw e (one (a .checked .gives-1 .0 e)))
+      (λ e. let h = a .checked .gives-2 .0 e in rw e (two (h .0) (h .1)))) (check-is-exact (a .checked) (a .checked) .0))
+    where
+      Goal : ℕ → Type 0
+      Goal k = P (afterCheck nothing s core k)
+
+  module _ {o : Given A} (a : Answers nothing s core o) where
+    -- 1: a table length is out of range.
+    pub answers-1 : (core .answer ≡ 1 → ⊥) → (o .answer ≡ 1) ↔ (LentOf s → ⊥)
+    answers-1 f =
+        answers-cases a (λ (g : Given A). (g .answer ≡ 1) ↔ (LentOf s → ⊥)) (λ l. (λ _. l, λ _. refl))
+        (λ L _. (λ e. absurd (omega arith), λ n. absurd (n L))) (λ L _. (λ e. absurd (f e), λ n. absurd (n L)))
+
+    -- 2: the lengths are in range and the tables are not sound.
+    pub answers-2 : (core .answer ≡ 2 → ⊥) → (o .answer ≡ 2) ↔ (LentOf s × (Sound s → ⊥))
+    answers-2 f =
+        answers-cases a (λ (g : Given A). (g .answer ≡ 2) ↔ (LentOf s × (Sound s → ⊥)))
+        (λ l. (λ e. absurd (omega arith), λ h. absurd (l (h .0)))) (λ L u. (λ _. (L, u), λ _. refl))
+        (λ L S. (λ e. absurd (f e), λ h. absurd (h .1 S)))
+
+    -- Another number: the lengths are in range, the tables are sound, and the call on sound tables gives it.
+    pub answers-other : (k : ℕ) → (k ≡ 1 → ⊥) → (k ≡ 2 → ⊥) → (o .answer ≡ k) ↔ (LentOf s × Sound s × (core .answer ≡ k))
+    answers-other k x y =
+        answers-cases a (λ (g : Given A). (g .answer ≡ k) ↔ (LentOf s × Sound s × (core .answer ≡ k)))
+        (λ l. (λ e. absurd (x (sym e)), λ h. absurd (l (h .0)))) (λ L u. (λ e. absurd (y (sym e)), λ h. absurd (u (h .1))))
+        (λ L S. (λ e. (L, S, e), λ h. h .2))
+
+    -- On sound tables with lengths in range it is what the call does there.
+    pub answers-sound : LentOf s → Sound s → o ≡ core
+    answers-sound =
+        answers-cases a (λ (g : Given A). LentOf s → Sound s → g ≡ core) (λ l L _. absurd (l L)) (λ _ u _ S. absurd (u S)) (λ _ _ _ _. refl)
+
+    -- A refusal hands over nothing and changes nothing, where one on sound tables doesn't.
+    pub answers-refused : ((core .answer ≡ 0 → ⊥) → core ≡ given (core .answer) nothing s) → (o .answer ≡ 0 → ⊥) → o ≡ given (o .answer) nothing s
+    answers-refused f =
+        answers-cases a (λ (g : Given A). (g .answer ≡ 0 → ⊥) → g ≡ given (g .answer) nothing s) (λ _ _. refl) (λ _ _ _. refl) (λ _ _. f)
