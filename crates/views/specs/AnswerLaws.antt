@@ -4,6 +4,7 @@ use mathlib.Core.Path.{_≡_, refl, ap, sym, _∙_}
 use mathlib.Core.Logic.{_↔_, _⊎_, ⊎-elim}
 use Prim.Native.Nat.{ℕ}
 use native.Mathlib.Omega.{arith}
+use borrow.Author.Tests.{eq-eqb, ne-eqb}
 use Rattle.steps.specs.State.{State}
 use Rattle.sound.specs.Sound.{Sound}
 use Rattle.starts.specs.StartWhen.{LentOf}
@@ -58,3 +59,13 @@ module _ {A : Type 0} {nothing : A} {s : State} {core : Given A} where
     pub answers-refused : ((core .answer ≡ 0 → ⊥) → core ≡ given (core .answer) nothing s) → (o .answer ≡ 0 → ⊥) → o ≡ given (o .answer) nothing s
     answers-refused f =
         answers-cases a (λ (g : Given A). (g .answer ≡ 0 → ⊥) → g ≡ given (g .answer) nothing s) (λ _ _. refl) (λ _ _ _. refl) (λ _ _. f)
+
+-- The outcome where the check said no, and where it said 0.
+module _ {A : Type 0} {nothing : A} {s : State} {core : Given A} {k : ℕ} (c : Checked s k) where
+  pub answers-checked : (k ≡ 0 → ⊥) → Answers nothing s core (given k nothing s)
+  unfolding afterCheck
+  answers-checked d = record { code = k; checked = c; is = rw (ne-eqb k 0 d) }
+
+  pub answers-core : k ≡ 0 → {o : Given A} → o ≡ core → Answers nothing s core o
+  unfolding afterCheck
+  answers-core z e = record { code = k; checked = c; is = rw (eq-eqb k 0 z) e }

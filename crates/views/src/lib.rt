@@ -179,3 +179,134 @@ fn is_lone_free(words: &[u32], root: AllocIndex) -> bool
     let next = node.next;
     slots::is_none(next)
 }
+
+// A ticket's rectangle. 8: its slot is not below n; 9: its generation differs; 10: its slot is not Alloc.
+pub fn index(
+    words: &[u32],
+    generations: &[u8],
+    small: &[u32],
+    medium: &[u32],
+    large: &[u32],
+    head: Head,
+    id: AllocId,
+) -> Looked
+    ensures { λ r. ⌜ IndexCall (state head (now (words .entry)) (now (generations .entry)) (now (small .entry)) (now (medium .entry)) (now (large .entry))) id
+        (given (r .answer) (r .rect) (state head (now (words .exit)) (now (generations .exit)) (now (small .exit)) (now (medium .exit)) (now (large .exit)))) ⌝ }
+{
+    let found = audit::check(words, generations, small, medium, large, head);
+    if found != 0 {
+        return Looked {
+            answer: found,
+            rect: geometry::no_rect(),
+        };
+    }
+    look_up(words, generations, head.count, id)
+}
+
+// The listing of a kind, into a lent list. 12: the lent list is shorter than the listing.
+fn for_each_rectangle(
+    words: &[u32],
+    generations: &[u8],
+    small: &[u32],
+    medium: &[u32],
+    large: &[u32],
+    head: Head,
+    out: &mut [u32],
+    kind: NodeKind,
+) -> Listing
+    ensures { λ r. ⌜ ListCall kind (state head (now (words .entry)) (now (generations .entry)) (now (small .entry)) (now (medium .entry)) (now (large .entry))) (now (out .entry))
+        (given (r .answer) (filled (r .count) (now (out .exit))) (state head (now (words .exit)) (now (generations .exit)) (now (small .exit)) (now (medium .exit)) (now (large .exit)))) ⌝ }
+{
+    let found = audit::check(words, generations, small, medium, large, head);
+    if found != 0 {
+        return Listing {
+            answer: found,
+            count: 0,
+        };
+    }
+    list_slots(words, generations, out, kind, head.count)
+}
+
+// The Alloc slots in slot order, five words to an entry: the ticket and the corners.
+pub fn for_each_allocated_rectangle(
+    words: &[u32],
+    generations: &[u8],
+    small: &[u32],
+    medium: &[u32],
+    large: &[u32],
+    head: Head,
+    out: &mut [u32],
+) -> Listing
+    ensures { λ r. ⌜ ListCall Alloc (state head (now (words .entry)) (now (generations .entry)) (now (small .entry)) (now (medium .entry)) (now (large .entry))) (now (out .entry))
+        (given (r .answer) (filled (r .count) (now (out .exit))) (state head (now (words .exit)) (now (generations .exit)) (now (small .exit)) (now (medium .exit)) (now (large .exit)))) ⌝ }
+{
+    for_each_rectangle(
+        words,
+        generations,
+        small,
+        medium,
+        large,
+        head,
+        out,
+        NodeKind::Alloc,
+    )
+}
+
+// The Free slots in slot order, four words to an entry: the corners.
+pub fn for_each_free_rectangle(
+    words: &[u32],
+    generations: &[u8],
+    small: &[u32],
+    medium: &[u32],
+    large: &[u32],
+    head: Head,
+    out: &mut [u32],
+) -> Listing
+    ensures { λ r. ⌜ ListCall Free (state head (now (words .entry)) (now (generations .entry)) (now (small .entry)) (now (medium .entry)) (now (large .entry))) (now (out .entry))
+        (given (r .answer) (filled (r .count) (now (out .exit))) (state head (now (words .exit)) (now (generations .exit)) (now (small .exit)) (now (medium .exit)) (now (large .exit)))) ⌝ }
+{
+    for_each_rectangle(
+        words,
+        generations,
+        small,
+        medium,
+        large,
+        head,
+        out,
+        NodeKind::Free,
+    )
+}
+
+// Whether one Free slot is the whole sheet.
+pub fn is_empty(
+    words: &[u32],
+    generations: &[u8],
+    small: &[u32],
+    medium: &[u32],
+    large: &[u32],
+    head: Head,
+) -> Emptiness
+    ensures { λ r. ⌜ EmptyCall (state head (now (words .entry)) (now (generations .entry)) (now (small .entry)) (now (medium .entry)) (now (large .entry)))
+        (given (r .answer) (r .empty) (state head (now (words .exit)) (now (generations .exit)) (now (small .exit)) (now (medium .exit)) (now (large .exit)))) ⌝ }
+{
+    let found = audit::check(words, generations, small, medium, large, head);
+    if found != 0 {
+        return Emptiness {
+            answer: found,
+            empty: false,
+        };
+    }
+    let root = head.root;
+    Emptiness {
+        answer: 0,
+        empty: is_lone_free(words, root),
+    }
+}
+
+// The sheet's size, as the head has it.
+pub fn size(head: Head) -> geometry::Size
+    ensures { λ r. ⌜ r ≡ head .sheet ⌝ }
+{
+    let sheet = head.sheet;
+    sheet
+}
