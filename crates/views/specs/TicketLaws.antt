@@ -17,17 +17,8 @@ use Rattle.slots.specs.declared.AllocId.{AllocId}
 use Rattle.slots.specs.declared.AllocIndex.{AllocIndex}
 use Rattle.slots.specs.declared.Node.{Node}
 use Rattle.slots.specs.declared.NodeKind.the-variants.{Alloc}
-use Rattle.steps.specs.State.{State}
-use Rattle.sound.specs.Sound.{Sound}
-use Rattle.starts.specs.StartWhen.{LentOf}
 use Rattle.links.specs.TestLaws.{fails, kind-says}
-use Rattle.views.specs.Views.{Held, ticketAnswer, ticketRect}
-
--- Sound tables of lengths in range hold their slots and their generations.
-pub sound-held : (s : State) → LentOf s → Sound s → Held (s .words) (s .generations) (s .head .count)
-sound-held s L S =
-    let f = S .rule1 .fits in
-    record { table = record { slots = omega (arith, L .eight); few = omega (arith, L .few) }; bytes = f }
+use Rattle.views.specs.Views.{ticketAnswer, ticketRect}
 
 module _ (w g : List ℕ) (n : ℕ) (t : AllocId) {i : AllocIndex} (is : i ≡ slotOf t) where
   pub ticket-out : n ≤ i .0 → 8 ≡ ticketAnswer w g n t

@@ -147,7 +147,13 @@ fn fill(words: &[u32], generations: &[u8], out: &mut [u32], kind: NodeKind, n: u
 }
 
 // A kind's listing of the first n slots, in slot order. 12: the lent list is shorter than the listing.
-pub fn list_slots(words: &[u32], generations: &[u8], out: &mut [u32], kind: NodeKind, n: u32) -> Listing
+pub fn list_slots(
+    words: &[u32],
+    generations: &[u8],
+    out: &mut [u32],
+    kind: NodeKind,
+    n: u32,
+) -> Listing
     requires { ⌜ Held (now words) (now generations) n ⌝ }
     ensures { λ r. ⌜ (r .answer ≡ listAnswer (now (words .entry)) (now (generations .entry)) kind n (now (out .entry)))
         × (filled (r .count) (now (out .exit)) ≡ listFilled (now (words .entry)) (now (generations .entry)) kind n (now (out .entry))) ⌝ }

@@ -1,30 +1,24 @@
+use mathlib.Core.Path.{refl}
+use Rattle.steps.specs.State.{state}
+use Rattle.views.specs.AnswerLaws.{answers-checked, answers-core, checked-held}
 use borrow.Author.Needs.{needs}
 use Rattle.views.proofs.for_each_rectangle.Statement.{statement}
 use Rattle.views.proofs.for_each_rectangle.Tie as tie
-use Rattle.views.proofs.for_each_rectangle.Reads as reads
-use Rattle.views.proofs.for_each_rectangle.Lts as lts
-use Rattle.audit.proofs.check.Reads as check-reads
-use Rattle.views.proofs.list_slots.Reads as list-slots-reads
 
--- src/lib.rt:220:9
 check-requires : tie.Need-check-requires
 check-requires c κs = search needs
 
--- src/lib.rt:222:9
 returns : tie.Need-returns
-returns c = ?
+returns c = answers-checked (c .before .check .ensures) (c .if1 .taken) refl
 
--- src/lib.rt:227:5
 list-slots-requires : tie.Need-list-slots-requires
-list-slots-requires c κs = ?
+list-slots-requires c κs = let a = c .before .before .before .before .before .before .before .before .before .args in checked-held (state (a .head) (a .words .now) (a .generations .now) (a .small .now) (a .medium .now) (a .large .now)) (c .before .before .check .ensures) (c .before .if1 .left)
 
--- src/lib.rt:207:1
 same-length : tie.Need-same-length
 same-length c = search needs
 
--- src/lib.rt:207:1
 returns-2 : tie.Need-returns-2
-returns-2 c = ?
+returns-2 c = answers-core (c .before .before .before .before .before .check .ensures) (c .before .before .before .before .if1 .left) (c .before .before .list-slots .ensures .0) (c .before .before .list-slots .ensures .1)
 
 pub for-each-rectangle-spec : {M : Type 1} → statement M
 for-each-rectangle-spec =

@@ -1,31 +1,23 @@
+use Rattle.steps.specs.State.{state}
+use Rattle.views.specs.AnswerLaws.{answers-checked, answers-core, checked-held}
 use borrow.Author.Needs.{needs}
 use Rattle.views.proofs.index.Statement.{statement}
 use Rattle.views.proofs.index.Tie as tie
-use Rattle.views.proofs.index.Reads as reads
-use Rattle.views.proofs.index.Lts as lts
-use Rattle.audit.proofs.check.Reads as check-reads
-use Rattle.geometry.proofs.no_rect.Reads as no-rect-reads
-use Rattle.views.proofs.look_up.Reads as look-up-reads
 
--- src/lib.rt:196:9
 check-requires : tie.Need-check-requires
 check-requires c κs = search needs
 
--- src/lib.rt:200:19
 no-rect-requires : tie.Need-no-rect-requires
 no-rect-requires c κs = search needs
 
--- src/lib.rt:198:9
 returns : tie.Need-returns
-returns c = ?
+returns c = answers-checked (c .before .before .check .ensures) (c .before .if1 .taken) (c .no-rect .ensures)
 
--- src/lib.rt:203:5
 look-up-requires : tie.Need-look-up-requires
-look-up-requires c κs = ?
+look-up-requires c κs = let a = c .before .before .before .before .before .before .before .args in checked-held (state (a .head) (a .words .now) (a .generations .now) (a .small .now) (a .medium .now) (a .large .now)) (c .before .check .ensures) (c .if1 .left)
 
--- src/lib.rt:184:1
 returns-2 : tie.Need-returns-2
-returns-2 c = ?
+returns-2 c = answers-core (c .before .before .check .ensures) (c .before .if1 .left) (c .look-up .ensures .0) (c .look-up .ensures .1)
 
 pub index-spec : {M : Type 1} → statement M
 index-spec =
