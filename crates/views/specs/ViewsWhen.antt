@@ -28,14 +28,13 @@ use Rattle.views.specs.Views.{LiveTicket, lookup, IndexCall, entries, Fi
 use Rattle.views.specs.TicketLaws.{ticket-cases}
 use Rattle.views.specs.EmptyLaws.{whole-free-at-root}
 
+-- A number given on sound tables exactly when P holds there.
+on-sound : {s : State} {X Y P : Type 0} → X ↔ (LentOf s × Sound s × Y) → Y ↔ P → X ↔ (LentOf s × Sound s × P)
+on-sound f g = (λ x. let h = f .0 x in (h .0, h .1, g .0 (h .2)), λ h. f .1 (h .0, h .1, g .1 (h .2)))
+
 -- LOOKUP.
 module _ (s : State) (t : AllocId) where
-  -- What holds where the call on sound tables gives a number.
-  Why : ℕ → Type 0
-  Why k = lookup s t .answer ≡ k
-
-  by-ticket : (P : Given Rectangle → Type 0)
-      → (s .head .count ≤ slotOf t .0 → P (given 8 noRect s))
+  by-ticket : (P : Given Rectangle → Type 0) → (s .head .count ≤ slotOf t .0 → P (given 8 noRect s))
       → (slotOf t .0 < s .head .count → (getD (s .generations) (slotOf t .0) 0 ≡ generationOf t → ⊥) → P (given 9 noRect s))
       → (slotOf t .0 < s .head .count → getD (s .generations) (slotOf t .0) 0 ≡ generationOf t → (nodeAt (s .words) (slotOf t) .kind ≡ Alloc → ⊥) → P (given 10 noRect s))
       → (LiveTicket s t → P (given 0 (nodeAt (s .words) (slotOf t) .rect) s)) → P (lookup s t)
@@ -49,3 +48,144 @@ module _ (s : State) (t : AllocId) where
     index-gives-1 =
         answers-1 call
         (by-ticket (λ (g : Given Rectangle). g .answer ≡ 1 → ⊥) (λ _ e. omega arith) (λ _ _ e. omega arith) (λ _ _ _ e. omega arith) (λ _ e. omega arith))
+
+    -- 2: the lengths are in range and the tables are not sound.
+    pub index-gives-2 : (o .answer ≡ 2) ↔ (LentOf s × (Sound s → ⊥))
+    index-gives-2 =
+        answers-2 call
+        (by-ticket (λ (g : Given Rectangle). g .answer ≡ 2 → ⊥) (λ _ e. omega arith) (λ _ _ e. omega arith) (λ _ _ _ e. omega arith) (λ _ e. omega arith))
+
+    -- 8: the tables are sound, of lengths in range, and the ticket's slot is not below n.
+    pub index-gives-8 : (o .answer ≡ 8) ↔ (LentOf s × Sound s × (s .head .count ≤ slotOf t .0))
+    index-gives-8 =
+        on-sound (answers-other call 8 (λ e. omega arith) (λ e. omega arith))
+        (by-ticket (λ (g : Given Rectangle). (g .answer ≡ 8) ↔ (s .head .count ≤ slotOf t .0)) (λ h. (λ _. h, λ _. refl))
+        (λ b _. (λ e. absurd (omega arith), λ h. absurd (omega arith))) (λ b _ _. (λ e. absurd (omega arith), λ h. absurd (omega arith)))
+        (λ l. (λ e. absurd (omega arith), λ h. absurd (omega (arith, l .below)))))
+
+    -- 9: its slot is below n, and its generation differs.
+    pub index-gives-9 : (o .answer ≡ 9) ↔ (LentOf s × Sound s × ((slotOf t .0 < s .head .count) × (getD (s .generations) (slotOf t .0) 0 ≡ generationOf t → ⊥)))
+    index-gives-9 =
+        on-sound (answers-other call 9 (λ e. omega arith) (λ e. omega arith))
+        (by-ticket (λ (g : Given Rectangle). (g .answer ≡ 9) ↔ ((slotOf t .0 < s .head .count) × (getD (s .generations) (slotOf t .0) 0 ≡ generationOf t → ⊥)))
+        (λ h. (λ e. absurd (omega arith), λ p. absurd (omega (arith, p .0)))) (λ b d. (λ _. (b, d), λ _. refl))
+        (λ _ p _. (λ e. absurd (omega arith), λ h. absurd (h .1 p))) (λ l. (λ e. absurd (omega arith), λ h. absurd (h .1 (l .present)))))
+
+    -- 10: its slot is below n, its generation is the present one, and its slot is not Alloc.
+    pub index-gives-10 : (o .answer ≡ 10)
+        ↔ (LentOf s × Sound s × ((slotOf t .0 < s .head .count) × (getD (s .generations) (slotOf t .0) 0 ≡ generationOf t) × (nodeAt (s .words) (slotOf t) .kind ≡ Alloc → ⊥)))
+    index-gives-10 =
+        on-sound (answers-other call 10 (λ e. omega arith) (λ e. omega arith))
+        (by-ticket
+        (λ (g : Given Rectangle). (g .answer ≡ 10)
+        ↔ ((slotOf t .0 < s .head .count) × (getD (s .generations) (slotOf t .0) 0 ≡ generationOf t) × (nodeAt (s .words) (slotOf t) .kind ≡ Alloc → ⊥)))
+        (λ h. (λ e. absurd (omega arith), λ p. absurd (omega (arith, p .0)))) (λ _ d. (λ e. absurd (omega arith), λ h. absurd (d (h .1))))
+        (λ b p k. (λ _. (b, p, k), λ _. refl)) (λ l. (λ e. absurd (omega arith), λ h. absurd (h .2 (l .alloc)))))
+
+    -- 0: the ticket is live.
+    pub index-gives-0 : (o .answer ≡ 0) ↔ (LentOf s × Sound s × LiveTicket s t)
+    index-gives-0 =
+        on-sound (answers-other call 0 (λ e. omega arith) (λ e. omega arith))
+        (by-ticket (λ (g : Given Rectangle). (g .answer ≡ 0) ↔ LiveTicket s t) (λ h. (λ e. absurd (omega arith), λ l. absurd (omega (arith, l .below))))
+        (λ _ d. (λ e. absurd (omega arith), λ l. absurd (d (l .present)))) (λ _ _ d. (λ e. absurd (omega arith), λ l. absurd (d (l .alloc))))
+        (λ l. (λ _. l, λ _. refl)))
+
+    -- A live ticket's rectangle is given, and nothing changes.
+    pub index-gives-rect : o .answer ≡ 0 → o ≡ given 0 (nodeAt (s .words) (slotOf t) .rect) s
+    index-gives-rect z =
+        let h = answers-other call 0 (λ e. omega arith) (λ e. omega arith) .0 z in
+        answers-sound call (h .0) (h .1)
+        ∙ by-ticket (λ (g : Given Rectangle). g .answer ≡ 0 → g ≡ given 0 (nodeAt (s .words) (slotOf t) .rect) s) (λ _ e. absurd (omega arith))
+        (λ _ _ e. absurd (omega arith)) (λ _ _ _ e. absurd (omega arith)) (λ _ _. refl) (h .2)
+
+    -- A refusal gives the zero rectangle and changes nothing.
+    pub index-refused : (o .answer ≡ 0 → ⊥) → o ≡ given (o .answer) noRect s
+    index-refused =
+        answers-refused call
+        (by-ticket (λ (g : Given Rectangle). (g .answer ≡ 0 → ⊥) → g ≡ given (g .answer) noRect s) (λ _ _. refl) (λ _ _ _. refl) (λ _ _ _ _. refl)
+        (λ _ d. absurd (d refl)))
+
+-- LISTINGS, of Alloc and of Free slots.
+module _ (kind : NodeKind) (s : State) (out : List ℕ) where
+  abbrev all : List ℕ
+  all = entries (s .words) (s .generations) kind (s .head .count)
+
+  by-room : (P : Given Filled → Type 0) → (length out < length all → P (given 12 (filled 0 out) s))
+      → (length all ≤ length out → P (given 0 (filled (countKind (s .words) kind (s .head .count)) (writtenOver all out)) s)) → P (listing kind s out)
+  unfolding listAnswer listFilled
+  by-room P short done = go (leb (length all) (length out)) refl
+    where
+      go : (b : Bool) → leb (length all) (length out) ≡ b
+          → P (given (pick b 0 12) (pick b (filled (countKind (s .words) kind (s .head .count)) (writtenOver all out)) (filled 0 out)) s)
+      go true e = done (leb-true (length all) (length out) e)
+      go false e = short (leb-false (length all) (length out) e)
+
+  module _ {o : Given Filled} (call : ListCall kind s out o) where
+    -- 1: a table length is outside its range.
+    pub listing-gives-1 : (o .answer ≡ 1) ↔ (LentOf s → ⊥)
+    listing-gives-1 = answers-1 call (by-room (λ (g : Given Filled). g .answer ≡ 1 → ⊥) (λ _ e. omega arith) (λ _ e. omega arith))
+
+    -- 2: the lengths are in range and the tables are not sound.
+    pub listing-gives-2 : (o .answer ≡ 2) ↔ (LentOf s × (Sound s → ⊥))
+    listing-gives-2 = answers-2 call (by-room (λ (g : Given Filled). g .answer ≡ 2 → ⊥) (λ _ e. omega arith) (λ _ e. omega arith))
+
+    -- 12: the tables are sound, of lengths in range, and the lent list is shorter than the listing.
+    pub listing-gives-12 : (o .answer ≡ 12) ↔ (LentOf s × Sound s × (length out < length (entries (s .words) (s .generations) kind (s .head .count))))
+    listing-gives-12 =
+        on-sound (answers-other call 12 (λ e. omega arith) (λ e. omega arith))
+        (by-room (λ (g : Given Filled). (g .answer ≡ 12) ↔ (length out < length all)) (λ h. (λ _. h, λ _. refl))
+        (λ h. (λ e. absurd (omega arith), λ k. absurd (omega arith))))
+
+    -- 0: it isn't.
+    pub listing-gives-0 : (o .answer ≡ 0) ↔ (LentOf s × Sound s × (length (entries (s .words) (s .generations) kind (s .head .count)) ≤ length out))
+    listing-gives-0 =
+        on-sound (answers-other call 0 (λ e. omega arith) (λ e. omega arith))
+        (by-room (λ (g : Given Filled). (g .answer ≡ 0) ↔ (length all ≤ length out)) (λ h. (λ e. absurd (omega arith), λ k. absurd (omega arith)))
+        (λ h. (λ _. h, λ _. refl)))
+
+    -- With 0 comes the listing, in slot order, with its count; places past it keep their bytes, and no table changes.
+    pub listing-gives-all : o .answer ≡ 0
+        → o ≡ given 0 (filled (countKind (s .words) kind (s .head .count)) (writtenOver (entries (s .words) (s .generations) kind (s .head .count)) out)) s
+    listing-gives-all z =
+        let h = answers-other call 0 (λ e. omega arith) (λ e. omega arith) .0 z in
+        answers-sound call (h .0) (h .1)
+        ∙ by-room
+        (λ (g : Given Filled). g .answer ≡ 0 → g ≡ given 0 (filled (countKind (s .words) kind (s .head .count)) (writtenOver all out)) s)
+        (λ _ e. absurd (omega arith)) (λ _ _. refl) (h .2)
+
+    -- A refusal gives the count 0, leaves the lent list as it was and changes nothing.
+    pub listing-refused : (o .answer ≡ 0 → ⊥) → o ≡ given (o .answer) (filled 0 out) s
+    listing-refused =
+        answers-refused call
+        (by-room (λ (g : Given Filled). (g .answer ≡ 0 → ⊥) → g ≡ given (g .answer) (filled 0 out) s) (λ _ _. refl) (λ _ d. absurd (d refl)))
+
+-- IS IT EMPTY.
+module _ {s : State} {o : Given Bool} (call : EmptyCall s o) where
+  -- 1: a table length is outside its range.
+  pub empty-gives-1 : (o .answer ≡ 1) ↔ (LentOf s → ⊥)
+  empty-gives-1 = answers-1 call (λ e. omega arith)
+
+  -- 2: the lengths are in range and the tables are not sound.
+  pub empty-gives-2 : (o .answer ≡ 2) ↔ (LentOf s × (Sound s → ⊥))
+  empty-gives-2 = answers-2 call (λ e. omega arith)
+
+  -- 0: the lengths are in range and the tables are sound.
+  pub empty-gives-0 : (o .answer ≡ 0) ↔ (LentOf s × Sound s)
+  empty-gives-0 =
+      let k = answers-other call 0 (λ e. omega arith) (λ e. omega arith) in
+      (λ e. let h = k .0 e in (h .0, h .1), λ h. k .1 (h .0, h .1, refl))
+
+  -- "Yes" is given exactly when, on sound tables of lengths in range, one Free slot is the whole sheet.
+  pub empty-gives-yes : (o .value ≡ true) ↔ (LentOf s × Sound s × WholeFree s)
+  empty-gives-yes =
+      answers-cases call (λ (g : Given Bool). (g .value ≡ true) ↔ (LentOf s × Sound s × WholeFree s))
+      (λ l. (λ e. absurd (false≢true e), λ h. absurd (l (h .0)))) (λ _ u. (λ e. absurd (false≢true e), λ h. absurd (u (h .1))))
+      (λ L S. (λ e. (L, S, whole-free-at-root S .0 e), λ h. whole-free-at-root S .1 (h .2)))
+
+  -- It changes nothing, whatever it says.
+  pub empty-changes-nothing : o .after ≡ s
+  empty-changes-nothing = answers-cases call (λ (g : Given Bool). g .after ≡ s) (λ _. refl) (λ _ _. refl) (λ _ _. refl)
+
+  -- A refusal says "no" and changes nothing.
+  pub empty-refused : (o .answer ≡ 0 → ⊥) → o ≡ given (o .answer) false s
+  empty-refused = answers-refused call (λ d. absurd (d refl))
