@@ -9,3 +9,5 @@ pub mod TreeLaws
 pub mod CountLaws
 pub mod AuditLaws
 pub mod Exact
+pub mod Answers
+pub mod AnswerLaws

@@ -1,6 +1,5 @@
-pub mod Answers
 pub mod Views
-pub mod AnswerLaws
+pub mod HeldLaws
 pub mod TicketLaws
 pub mod ListingLaws
 pub mod EmptyLaws

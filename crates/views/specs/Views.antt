@@ -22,7 +22,7 @@ use Rattle.steps.specs.State.{State}
 use Rattle.sound.specs.View.{seen}
 use Rattle.sound.specs.Sound.{sheetOf}
 use Rattle.links.specs.Links.{Table}
-use Rattle.views.specs.Answers.{Given, given, Answers}
+use Rattle.audit.specs.Answers.{Given, given, Answers}
 
 -- What the calls ask once the check has said 0: tables that hold the first n slots and their generations.
 pub record Held (w g : List ℕ) (n : ℕ) : Type 0 where

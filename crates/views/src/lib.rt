@@ -12,7 +12,7 @@ ghost use Rattle.slots.specs.Slots.{HasSlot};
 ghost use Rattle.slots.specs.declared.NodeKind.the-variants.{Alloc, Free};
 ghost use Rattle.lists.specs.Lists.{bag};
 ghost use Rattle.steps.specs.State.{state};
-ghost use Rattle.views.specs.Answers.{given};
+ghost use Rattle.audit.specs.Answers.{given};
 ghost use Rattle.views.specs.Views.{Held, ticketAnswer, ticketRect, IndexCall, corners, entryWords, entryOf, entryAt, entries, writtenOver, wrote, Enterable, filled, listAnswer, listFilled, ListCall, loneFree, EmptyCall};
 
 // A number of the paper's list, with a live ticket's rectangle.

@@ -1,5 +1,6 @@
 use Rattle.steps.specs.State.{state}
-use Rattle.views.specs.AnswerLaws.{answers-checked, answers-core, checked-held}
+use Rattle.audit.specs.AnswerLaws.{answers-checked, answers-core}
+use Rattle.views.specs.HeldLaws.{checked-held}
 use borrow.Author.Needs.{needs}
 use Rattle.views.proofs.index.Statement.{statement}
 use Rattle.views.proofs.index.Tie as tie

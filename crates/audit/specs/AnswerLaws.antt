@@ -5,14 +5,12 @@ use mathlib.Core.Logic.{_↔_, _⊎_, ⊎-elim}
 use Prim.Native.Nat.{ℕ}
 use native.Mathlib.Omega.{arith}
 use borrow.Author.Tests.{eq-eqb, ne-eqb}
-use Rattle.slots.specs.Slots.{HasSlot}
 use Rattle.steps.specs.State.{State}
 use Rattle.sound.specs.Sound.{Sound}
 use Rattle.starts.specs.StartWhen.{LentOf}
 use Rattle.audit.specs.Audited.{Checked}
 use Rattle.audit.specs.Exact.{check-is-exact}
-use Rattle.views.specs.Answers.{Given, given, afterCheck, Answers}
-use Rattle.views.specs.Views.{Held}
+use Rattle.audit.specs.Answers.{Given, given, afterCheck, Answers}
 
 module _ {A : Type 0} {nothing : A} {s : State} {core : Given A} where
   -- NO OTHER OUTCOME. Two outcomes that meet the contract are the same: answer, what is handed over, head and tables.
@@ -71,14 +69,3 @@ module _ {A : Type 0} {nothing : A} {s : State} {k : ℕ} (c : Checked s k) wher
   pub answers-core : k ≡ 0 → {a b : ℕ} {v u : A} → a ≡ b → v ≡ u → Answers nothing s (given b u s) (given a v s)
   unfolding afterCheck
   answers-core z e f = record { code = k; checked = c; is = rw (eq-eqb k 0 z, e, f) }
-
--- Where it said 0, the tables hold their slots and their generations, and the root.
-module _ (s : State) {k : ℕ} (c : Checked s k) (z : k ≡ 0) where
-  pub checked-held : Held (s .words) (s .generations) (s .head .count)
-  checked-held =
-      let h = c .gives-0 .0 z in
-      let fits = h .1 .rule1 .fits in
-      record { table = record { slots = omega (arith, h .0 .eight); few = omega (arith, h .0 .few) }; bytes = fits }
-
-  pub checked-root : HasSlot (s .words) (s .head .root)
-  checked-root = let root = c .gives-0 .0 z .1 .rule1 .root in omega (arith, checked-held .table .slots)
