@@ -27,7 +27,7 @@ use Rattle.links.specs.LinkLaws.{link-none}
 use Rattle.links.specs.TestLaws.{Says, both-say, says-as, kind-says}
 use Rattle.cover.specs.Sums.{LeafAt, rectAt}
 use Rattle.cover.specs.Covered.{leaves-apart, ticket-on-sheet}
-use Rattle.views.specs.Views.{WholeFree, loneFree}
+use Rattle.views.specs.Views.{WholeFree, OnlyFree, loneFree}
 
 -- Kinds that differ.
 free-not : {k : NodeKind} {G : Type 0} → k ≡ Free → (k ≡ Alloc) ⊎ (k ≡ Container) → G
@@ -142,9 +142,26 @@ module _ {s : State} (S : Sound s) where
           let e : a ≡ root = to-inj (R .from-root) in
           rw (← e) (t .0, t .1, λ j l. t .2 j (R .all j l))
 
+  -- A Free root without next is the whole sheet.
+  lone-whole : get root .kind ≡ Free → get root .next ≡ none → WholeFree s
+  lone-whole k e = (root, S .rule3 .root-live .0, k, lone-rect (S .rule5) k e)
+
   -- THE ROOT. One Free slot is the whole sheet exactly where the root is Free and has no next.
   pub whole-free-at-root : Says (loneFree (s .words) (s .head .root)) (WholeFree s)
   unfolding loneFree seen
   whole-free-at-root =
       says-as (both-say (kind-says (nodeAt (s .words) (s .head .root) .kind) Free) (link-none (nodeAt (s .words) (s .head .root) .next)))
-      (λ h. (root, S .rule3 .root-live .0, h .0, lone-rect (S .rule5) (h .0) (h .1)), λ w. let a = whole-free-alone w in (a .0, a .1))
+      (λ h. lone-whole (h .0) (h .1), λ w. let a = whole-free-alone w in (a .0, a .1))
+
+  -- THE ONLY SLOT. One Free slot is the whole sheet exactly where it is the only live slot.
+  pub whole-free-only : WholeFree s ↔ OnlyFree s
+  whole-free-only = (
+    λ w. let a = whole-free-alone w in (root, S .rule3 .root-live, a .0, a .2),
+    λ o. lone-whole (rw (o .3 root (S .rule3 .root-live)) (o .2)) (last (get root .next) refl (o .3)),
+  )
+    where
+      last : {i : ℕ} (l : Link) → get root .next ≡ l → ((j : ℕ) → Live get n j → j ≡ i) → get root .next ≡ none
+      last none e only = e
+      last (to j) e only =
+          let same : j ≡ root = only j (S .rule3 .next-live root j (S .rule3 .root-live) e) ∙ sym (only root (S .rule3 .root-live)) in
+          absurd (no-link (sym (S .rule3 .root-prev) ∙ (ap (λ (x : ℕ). get x .prev) (sym same) ∙ S .rule3 .next-prev root j (S .rule3 .root-live) e)))

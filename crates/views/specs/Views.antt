@@ -19,7 +19,7 @@ use Rattle.slots.specs.declared.NodeKind.the-variants.{Alloc, Free}
 use Rattle.lists.specs.Lists.{Bag, bag}
 use Rattle.steps.specs.Spares.{countKind}
 use Rattle.steps.specs.State.{State}
-use Rattle.sound.specs.View.{seen}
+use Rattle.sound.specs.View.{seen, Live}
 use Rattle.sound.specs.Sound.{sheetOf}
 use Rattle.links.specs.Links.{Table}
 use Rattle.audit.specs.Answers.{Given, given, Answers}
@@ -113,6 +113,11 @@ pub record Enterable (w g : List ℕ) (kind : NodeKind) (i : ℕ) (b : Bag) : Ty
 -- EMPTINESS. One Free slot is the whole sheet.
 abbrev pub WholeFree : State → Type 0
 WholeFree s = (i : ℕ) × (i < s .head .count) × (seen (s .words) i .kind ≡ Free) × (seen (s .words) i .rect ≡ sheetOf (s .head .sheet))
+
+-- The same another way: one Free slot is live, and no other slot is (`whole-free-only`).
+abbrev pub OnlyFree : State → Type 0
+OnlyFree s =
+    (i : ℕ) × Live (seen (s .words)) (s .head .count) i × (seen (s .words) i .kind ≡ Free) × ((j : ℕ) → Live (seen (s .words)) (s .head .count) j → j ≡ i)
 
 -- How it is seen: the root is Free and has no next. (On sound tables the two are the same: `whole-free-at-root`.)
 unfoldable pub loneFree : List ℕ → AllocIndex → Bool

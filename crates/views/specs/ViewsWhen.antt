@@ -13,9 +13,11 @@ use borrow.Author.Tests.{leb-true, leb-false}
 use Rattle.geometry.specs.Choice.{pick}
 use Rattle.geometry.specs.Cuts.{noRect}
 use Rattle.geometry.specs.declared.Rectangle.{Rectangle}
-use Rattle.slots.specs.Slots.{nodeAt}
-use Rattle.slots.specs.Tickets.{slotOf, generationOf}
+use Rattle.slots.specs.Slots.{slot, nodeAt}
+use Rattle.slots.specs.Tickets.{ticketOf, slotOf, generationOf}
+use Rattle.slots.specs.TicketLaws.{ticket-together, ticket-slot, ticket-generation}
 use Rattle.slots.specs.declared.AllocId.{AllocId}
+use Rattle.slots.specs.declared.AllocIndex.{AllocIndex}
 use Rattle.slots.specs.declared.NodeKind.{NodeKind}
 use Rattle.slots.specs.declared.NodeKind.the-variants.{Alloc}
 use Rattle.steps.specs.Spares.{countKind}
@@ -24,9 +26,9 @@ use Rattle.sound.specs.Sound.{Sound}
 use Rattle.starts.specs.StartWhen.{LentOf}
 use Rattle.audit.specs.Answers.{Given, given, Answers}
 use Rattle.audit.specs.AnswerLaws.{answers-cases, answers-1, answers-2, answers-other, answers-sound, answers-refused}
-use Rattle.views.specs.Views.{LiveTicket, lookup, IndexCall, entries, Filled, filled, writtenOver, listAnswer, listFilled, listing, ListCall, WholeFree, loneFree, EmptyCall}
+use Rattle.views.specs.Views.{LiveTicket, lookup, IndexCall, entries, Filled, filled, writtenOver, listAnswer, listFilled, listing, ListCall, WholeFree, OnlyFree, loneFree, EmptyCall}
 use Rattle.views.specs.TicketLaws.{ticket-cases}
-use Rattle.views.specs.EmptyLaws.{whole-free-at-root}
+use Rattle.views.specs.EmptyLaws.{whole-free-at-root, whole-free-only}
 
 -- A number given on sound tables exactly when P holds there.
 on-sound : {s : State} {X Y P : Type 0} → X ↔ (LentOf s × Sound s × Y) → Y ↔ P → X ↔ (LentOf s × Sound s × P)
@@ -105,6 +107,19 @@ module _ (s : State) (t : AllocId) where
         (by-ticket (λ (g : Given Rectangle). (g .answer ≡ 0 → ⊥) → g ≡ given (g .answer) noRect s) (λ _ _. refl) (λ _ _ _. refl) (λ _ _ _ _. refl)
         (λ _ d. absurd (d refl)))
 
+-- TICKETS. The ticket that the Alloc listing has for a slot is live,
+pub listed-ticket-is-live : (s : State) → LentOf s → Sound s → (i : ℕ) → i < s .head .count → nodeAt (s .words) (slot i) .kind ≡ Alloc
+    → LiveTicket s (ticketOf (slot i) (getD (s .generations) i 0))
+listed-ticket-is-live s L S i b k =
+    let fits = S .rule1 .fits in
+    let small : i < 16777216 = omega (arith, L .few) in
+    let same = ap (λ (x : AllocIndex). x .0) (ticket-slot (slot i) (getD (s .generations) i 0) small) in
+    record { below = rw same b; present = rw same (sym (ticket-generation (slot i) (getD (s .generations) i 0) small)); alloc = rw same k }
+
+-- and a live ticket is the one that the Alloc listing has for its slot.
+pub live-ticket-is-listed : (s : State) (t : AllocId) → LiveTicket s t → ticketOf (slotOf t) (getD (s .generations) (slotOf t .0) 0) ≡ t
+live-ticket-is-listed s t l = rw (l .present) (ticket-together t)
+
 -- LISTINGS, of Alloc and of Free slots.
 module _ (kind : NodeKind) (s : State) (out : List ℕ) where
   abbrev all : List ℕ
@@ -181,6 +196,13 @@ module _ {s : State} {o : Given Bool} (call : EmptyCall s o) where
       answers-cases call (λ (g : Given Bool). (g .value ≡ true) ↔ (LentOf s × Sound s × WholeFree s))
       (λ l. (λ e. absurd (false≢true e), λ h. absurd (l (h .0)))) (λ _ u. (λ e. absurd (false≢true e), λ h. absurd (u (h .1))))
       (λ L S. (λ e. (L, S, whole-free-at-root S .0 e), λ h. whole-free-at-root S .1 (h .2)))
+
+  -- That is: exactly when one Free slot is live, and no other slot is.
+  pub empty-gives-yes-alone : (o .value ≡ true) ↔ (LentOf s × Sound s × OnlyFree s)
+  empty-gives-yes-alone = (
+    λ e. let h = empty-gives-yes .0 e in (h .0, h .1, whole-free-only (h .1) .0 (h .2)),
+    λ h. empty-gives-yes .1 (h .0, h .1, whole-free-only (h .1) .1 (h .2)),
+  )
 
   -- It changes nothing, whatever it says.
   pub empty-changes-nothing : o .after ≡ s
