@@ -4,6 +4,7 @@
 mod agree;
 mod calls;
 mod leaves;
+mod looks;
 mod report;
 mod take;
 mod tickets;

@@ -10,7 +10,11 @@ fn say_kind(kind: u64, number: u64) {
     say(b": ", number);
 }
 
+// The lines of kind 9 are all compared.
 fn say_unless_replayed(kind: u32, number: u64) {
+    if kind == 9 {
+        return;
+    }
     if !calls::is_replayed(kind) {
         say_kind(kind as u64, number);
     }
@@ -49,6 +53,10 @@ fn report_calls(counts: &[u64; 32], told: u64) {
     say(b"clears agree ", counts[5]);
     say(b"resets agree ", counts[6]);
     say(b"  lines that tell of these calls ", told);
+    say(
+        b"other calls after which is-empty and lookup agree ",
+        counts[9],
+    );
 }
 
 pub fn report(counts: &[u64; 32], tally: Tally) {

@@ -3,6 +3,8 @@
 use crate::agree;
 use crate::calls;
 use crate::leaves;
+use crate::looks;
+use crate::looks::Due;
 use crate::tickets;
 use crate::told;
 use crate::verdict;
@@ -17,12 +19,13 @@ pub struct Call {
     pub at: u64,
 }
 
-// What is kept from line to line beside the tables: the head that the list tells of, what our last call gave, and the call
-// that is open.
+// What is kept from line to line beside the tables: the head that the list tells of, what our last call gave, the call
+// that is open, and what our lookup must say once it is closed.
 pub struct Kept {
     pub told: Head,
     pub ours: Begun,
     pub call: Call,
+    pub due: Due,
 }
 
 // What is kept after a line, and what is found of it.
@@ -45,6 +48,7 @@ pub fn nothing_yet(line: &[u32; 128]) -> Kept {
             head: head,
         },
         call: no_call(),
+        due: looks::no_due(),
     }
 }
 
@@ -127,16 +131,28 @@ fn open(
                 kind: line[0],
                 at: at,
             },
+            due: looks::no_due(),
         },
         verdict: Verdict::Told,
     }
 }
 
-// What is found of the line of a call that is not replayed yet.
-fn ticket(line: &[u32; 128]) -> Verdict {
+// What is found of the line of a call that is not replayed yet. The ticket of a deallocate is live before it.
+fn ticket(
+    line: &[u32; 128],
+    words: &[u32; 2048],
+    generations: &[u8; 256],
+    lists: &[[u32; 1024]; 3],
+    head: Head,
+) -> Verdict {
     match line[0] {
         2 => tickets::allocate(line),
-        3 => tickets::deallocate(line),
+        3 => {
+            if looks::is_live(words, generations, lists, head, line[1]) {
+                return tickets::deallocate(line);
+            }
+            Verdict::Differs
+        }
         _ => Verdict::Later,
     }
 }
@@ -150,7 +166,14 @@ fn grown(line: &[u32; 128], head: Head) -> Head {
 }
 
 // 2 w h answer ticket x0 y0 x1 y1, 3 ticket, and 4 w h
-fn open_later(line: &[u32; 128], kept: Kept, at: u64) -> Step {
+fn open_later(
+    line: &[u32; 128],
+    told_words: &[u32; 2048],
+    told_generations: &[u8; 256],
+    told_lists: &[[u32; 1024]; 3],
+    kept: Kept,
+    at: u64,
+) -> Step {
     let call = kept.call;
     let head = kept.told;
     if call.kind != 0 {
@@ -165,8 +188,9 @@ fn open_later(line: &[u32; 128], kept: Kept, at: u64) -> Step {
                 kind: line[0],
                 at: at,
             },
+            due: looks::due_after(line),
         },
-        verdict: ticket(line),
+        verdict: ticket(line, told_words, told_generations, told_lists, head),
     }
 }
 
@@ -202,20 +226,16 @@ fn change(
     }
 }
 
-// Whether a line of kind 9 can close this call, and says something that is compared.
-fn is_due(line: &[u32; 128], call: Call) -> Verdict {
+// Whether a line of kind 9 can close this call.
+fn is_due(line: &[u32; 128], call: Call) -> bool {
     if call.kind == 0 {
-        return Verdict::Fault;
+        return false;
     }
-    if line[1] > 1 {
-        return Verdict::Fault;
-    }
-    telling(call.kind)
+    line[1] <= 1
 }
 
-// After each call that is replayed so far the atlas is empty.
+// Whether our call answered 0 and left the state that the list tells of.
 fn is_same(
-    line: &[u32; 128],
     told_words: &[u32; 2048],
     told_generations: &[u8; 256],
     told_lists: &[[u32; 1024]; 3],
@@ -227,9 +247,6 @@ fn is_same(
     head: Head,
     ours: Begun,
 ) -> bool {
-    if line[1] != 1 {
-        return false;
-    }
     if !agree::same_head(head, ours) {
         return false;
     }
@@ -244,6 +261,21 @@ fn is_same(
         large,
         head,
     )
+}
+
+// Whether what can be read off the state that the list tells of is as the list says.
+fn is_read(
+    line: &[u32; 128],
+    told_words: &[u32; 2048],
+    told_generations: &[u8; 256],
+    told_lists: &[[u32; 1024]; 3],
+    head: Head,
+    due: Due,
+) -> bool {
+    if !looks::is_empty_as_told(line, told_words, told_generations, told_lists, head) {
+        return false;
+    }
+    looks::is_met(told_words, told_generations, told_lists, head, due)
 }
 
 // What is kept once the call is closed.
@@ -269,26 +301,29 @@ fn close(
     let call = kept.call;
     let head = kept.told;
     let ours = kept.ours;
-    let due = is_due(line, call);
-    match due {
-        Verdict::Told => {
-            let same = is_same(
-                line,
-                told_words,
-                told_generations,
-                told_lists,
-                words,
-                generations,
-                small,
-                medium,
-                large,
-                head,
-                ours,
-            );
-            verdict::told(same)
-        }
-        _ => due,
+    let due = kept.due;
+    if !is_due(line, call) {
+        return Verdict::Fault;
     }
+    if !is_read(line, told_words, told_generations, told_lists, head, due) {
+        return Verdict::Differs;
+    }
+    if !calls::is_replayed(call.kind) {
+        return Verdict::Agrees;
+    }
+    let same = is_same(
+        told_words,
+        told_generations,
+        told_lists,
+        words,
+        generations,
+        small,
+        medium,
+        large,
+        head,
+        ours,
+    );
+    verdict::told(same)
 }
 
 // What is found of a line that is about no call.
@@ -329,7 +364,7 @@ pub fn take(
             kept,
             at,
         ),
-        2..=4 => open_later(line, kept, at),
+        2..=4 => open_later(line, told_words, told_generations, told_lists, kept, at),
         9 => {
             let verdict = close(
                 line,

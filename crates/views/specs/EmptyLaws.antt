@@ -1,31 +1,29 @@
 -- THE EMPTY SHEET: on sound tables one Free slot is the whole sheet exactly where the root is Free and has no next, and then no other slot is live.
 -- Assumes nothing but that the tables are sound.
 use mathlib.Core.Path.{_≡_, refl, ap, sym, _∙_}
-use mathlib.Core.Bool.{Bool, true, _&&_}
-use mathlib.Core.Logic.{_↔_, _⊎_, inl, inr, ⊎-elim}
-use mathlib.Core.List.{List, [], _∷_, _++_}
-use Prim.Native.Nat.{ℕ, _≤_, _<_}
+use mathlib.Core.Logic.{_↔_, _⊎_, inl, inr}
+use mathlib.Core.List.{[], _∷_, _++_}
+use Prim.Native.Nat.{ℕ, _<_}
 use native.Mathlib.Omega.{arith}
 use native.Mathlib.Decide.{ℕ-discrete}
 use Rattle.geometry.specs.Cuts.{flip}
-use Rattle.geometry.specs.Sides.{natural}
 use Rattle.geometry.specs.declared.Orientation.{Orientation}
 use Rattle.geometry.specs.declared.Rectangle.{Rectangle}
-use Rattle.slots.specs.Slots.{slot, isNone, sameKind, nodeAt}
+use Rattle.slots.specs.Slots.{slot, nodeAt}
 use Rattle.slots.specs.declared.NodeKind.{NodeKind}
 use Rattle.slots.specs.declared.NodeKind.the-variants.{Container, Alloc, Free, Unused}
 use Rattle.steps.specs.State.{State}
-use Rattle.sound.specs.View.{Link, none, to, linkOf, Seen, seen, Live}
+use Rattle.sound.specs.View.{Link, none, to, Seen, seen, Live}
 use Rattle.sound.specs.Rules.{Leaf, PlaceSlot, own, children, PlaceChain, last, more}
 use Rattle.sound.specs.Sound.{Sound, sheetOf}
 use Rattle.forest.specs.Pigeon.{In, Distinct}
 use Rattle.forest.specs.Forest as forest
-use Rattle.forest.specs.Forest.{Forest, empty, head, slots, Bare, Full, Shape, Rep, Represents, in-children, rep-distinct}
+use Rattle.forest.specs.Forest.{Forest, empty, head, slots, Bare, Full, Shape, Rep, Represents, rep-distinct}
 use Rattle.forest.specs.Bridge as bridge
 use Rattle.forest.specs.Back.{to-inj, no-link, distinct-left, distinct-apart, in-live}
 use Rattle.links.specs.LinkLaws.{link-none}
 use Rattle.links.specs.TestLaws.{Says, both-say, says-as, kind-says}
-use Rattle.cover.specs.Sums.{LeafAt, rectAt}
+use Rattle.cover.specs.Sums.{rectAt}
 use Rattle.cover.specs.Covered.{leaves-apart, ticket-on-sheet}
 use Rattle.views.specs.Views.{WholeFree, OnlyFree, loneFree}
 

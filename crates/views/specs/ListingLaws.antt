@@ -6,9 +6,8 @@ use mathlib.Core.List.{List, [], _∷_, _++_}
 use Prim.Native.Nat.{ℕ, zero, suc, _+_, _-_, _*_, _≤_, _<_}
 use native.Mathlib.Numerals.{add-one}
 use native.Mathlib.Omega.{arith}
-use lib.ListN.{length, getD, set, drop, length-append}
+use lib.ListN.{length, getD, set, length-append}
 use lib.Seq.{sets, sets-eq, length-sets}
-use lib.Dec.{leb}
 use borrow.Author.Tests.{le-leb, lt-leb, not-true, not-false}
 use Rattle.geometry.specs.Choice.{pick}
 use Rattle.geometry.specs.declared.Rectangle.{Rectangle}
@@ -21,7 +20,8 @@ use Rattle.slots.specs.declared.NodeKind.{NodeKind}
 use Rattle.slots.specs.declared.NodeKind.the-variants.{Alloc}
 use Rattle.lists.specs.Lists.{Bag, bag}
 use Rattle.steps.specs.Spares.{ofKind, countKind}
-use Rattle.views.specs.Views.{Held, corners, entryWords, entryOf, entryAt, entries, filled, writtenOver, listAnswer, listFilled, wrote, Enterable}
+use Rattle.views.specs.Views.{corners, entryOf, entryAt, entries, filled, writtenOver, listAnswer, listFilled}
+use Rattle.views.specs.Fills.{Held, entryWords, wrote, Enterable}
 
 -- Nothing written, and words written after words.
 pub wrote-nothing : (l : List ℕ) → bag l 0 ≡ wrote (bag l 0) []

@@ -3,31 +3,23 @@
 use mathlib.Core.Path.{_≡_}
 use mathlib.Core.Bool.{Bool, false, _&&_, not}
 use mathlib.Core.List.{List, [], _∷_, _++_}
-use Prim.Native.Nat.{ℕ, zero, suc, _+_, _≤_, _<_}
+use Prim.Native.Nat.{ℕ, zero, suc, _<_}
 use lib.ListN.{length, getD, drop}
-use lib.Seq.{sets}
 use lib.Dec.{eqb, leb}
 use Rattle.geometry.specs.Choice.{pick}
 use Rattle.geometry.specs.Cuts.{noRect}
 use Rattle.geometry.specs.declared.Rectangle.{Rectangle}
-use Rattle.slots.specs.Slots.{slot, isNone, sameKind, nodeAt, HasSlot}
+use Rattle.slots.specs.Slots.{slot, isNone, sameKind, nodeAt}
 use Rattle.slots.specs.Tickets.{ticketOf, slotOf, generationOf}
 use Rattle.slots.specs.declared.AllocId.{AllocId}
 use Rattle.slots.specs.declared.AllocIndex.{AllocIndex}
 use Rattle.slots.specs.declared.NodeKind.{NodeKind}
 use Rattle.slots.specs.declared.NodeKind.the-variants.{Alloc, Free}
-use Rattle.lists.specs.Lists.{Bag, bag}
 use Rattle.steps.specs.Spares.{countKind}
 use Rattle.steps.specs.State.{State}
 use Rattle.sound.specs.View.{seen, Live}
 use Rattle.sound.specs.Sound.{sheetOf}
-use Rattle.links.specs.Links.{Table}
 use Rattle.audit.specs.Answers.{Given, given, Answers}
-
--- What the calls ask once the check has said 0: tables that hold the first n slots and their generations.
-pub record Held (w g : List ℕ) (n : ℕ) : Type 0 where
-  pub table : Table w n
-  pub bytes : n ≤ length g
 
 -- LOOKUP. A live ticket is one naming an Alloc slot with its present generation.
 pub record LiveTicket (s : State) (t : AllocId) : Type 0 where
@@ -45,6 +37,7 @@ ticketAnswer w g n t =
 unfoldable pub ticketRect : List ℕ → List ℕ → ℕ → AllocId → Rectangle
 ticketRect w g n t = pick (eqb (ticketAnswer w g n t) 0) (nodeAt w (slotOf t) .rect) noRect
 
+-- What the lookup gives on sound tables.
 abbrev pub lookup : State → AllocId → Given Rectangle
 lookup s t =
     given (ticketAnswer (s .words) (s .generations) (s .head .count) t) (ticketRect (s .words) (s .generations) (s .head .count) t) s
@@ -53,20 +46,19 @@ lookup s t =
 abbrev pub IndexCall : State → AllocId → Given Rectangle → Type 0
 IndexCall s t o = Answers noRect s (lookup s t) o
 
--- LISTINGS. An entry of the Alloc listing is the ticket and the corners, five words; one of the Free listing the corners, four.
+-- LISTINGS. The four corners of a rectangle, as words.
 abbrev pub corners : Rectangle → List ℕ
 corners r = r .x0 ∷ r .y0 ∷ r .x1 ∷ r .y1 ∷ []
 
-abbrev pub entryWords : NodeKind → ℕ
-entryWords kind = pick (sameKind kind Alloc) 5 4
-
+-- An entry of the Alloc listing is the ticket and the corners; one of the Free listing the corners.
 abbrev pub entryOf : NodeKind → AllocId → Rectangle → List ℕ
 entryOf kind t r = pick (sameKind kind Alloc) (t .0 ∷ corners r) (corners r)
 
--- The entry of slot i if it is of the kind, and the listing of the first n slots, in slot order.
+-- The entry of slot i, if it is of the kind.
 unfoldable pub entryAt : List ℕ → List ℕ → NodeKind → ℕ → List ℕ
 entryAt w g kind i = pick (sameKind (nodeAt w (slot i) .kind) kind) (entryOf kind (ticketOf (slot i) (getD g i 0)) (nodeAt w (slot i) .rect)) []
 
+-- The listing of the first n slots, in slot order.
 unfoldable pub entries : List ℕ → List ℕ → NodeKind → ℕ → List ℕ
 entries w g kind zero = []
 entries w g kind (suc n) = entries w g kind n ++ entryAt w g kind n
@@ -92,6 +84,7 @@ unfoldable pub listFilled : List ℕ → List ℕ → NodeKind → ℕ → List 
 listFilled w g kind n out =
     pick (leb (length (entries w g kind n)) (length out)) (filled (countKind w kind n) (writtenOver (entries w g kind n) out)) (filled 0 out)
 
+-- What a listing gives on sound tables.
 abbrev pub listing : NodeKind → State → List ℕ → Given Filled
 listing kind s out =
     given (listAnswer (s .words) (s .generations) kind (s .head .count) out) (listFilled (s .words) (s .generations) kind (s .head .count) out) s
@@ -99,16 +92,6 @@ listing kind s out =
 -- The call: 1, 2, 12.
 abbrev pub ListCall : NodeKind → State → List ℕ → Given Filled → Type 0
 ListCall kind s out o = Answers (filled 0 out) s (listing kind s out) o
-
--- How a listing is written: words take the next places of a list, and what the entry of slot i asks.
-unfoldable pub wrote : Bag → List ℕ → Bag
-wrote b vs = bag (sets (b .table) (b .len) vs) (b .len + length vs)
-
-pub record Enterable (w g : List ℕ) (kind : NodeKind) (i : ℕ) (b : Bag) : Type 0 where
-  pub has : HasSlot w (slot i)
-  pub byte : i < length g
-  pub few : i < 4096
-  pub room : b .len + length (entryAt w g kind i) ≤ length (b .table)
 
 -- EMPTINESS. One Free slot is the whole sheet.
 abbrev pub WholeFree : State → Type 0

@@ -24,9 +24,9 @@ use Rattle.steps.specs.Spares.{countKind}
 use Rattle.steps.specs.State.{State}
 use Rattle.sound.specs.Sound.{Sound}
 use Rattle.starts.specs.StartWhen.{LentOf}
-use Rattle.audit.specs.Answers.{Given, given, Answers}
+use Rattle.audit.specs.Answers.{Given, given}
 use Rattle.audit.specs.AnswerLaws.{answers-cases, answers-1, answers-2, answers-other, answers-sound, answers-refused}
-use Rattle.views.specs.Views.{LiveTicket, lookup, IndexCall, entries, Filled, filled, writtenOver, listAnswer, listFilled, listing, ListCall, WholeFree, OnlyFree, loneFree, EmptyCall}
+use Rattle.views.specs.Views.{LiveTicket, lookup, IndexCall, entries, Filled, filled, writtenOver, listAnswer, listFilled, listing, ListCall, WholeFree, OnlyFree, EmptyCall}
 use Rattle.views.specs.TicketLaws.{ticket-cases}
 use Rattle.views.specs.EmptyLaws.{whole-free-at-root, whole-free-only}
 

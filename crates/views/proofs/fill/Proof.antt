@@ -3,7 +3,8 @@ use Prim.Native.Nat.{_≤_, _-_}
 use native.Mathlib.Omega.{arith}
 use lib.ListN.{length}
 use Rattle.lists.specs.Lists.{bag}
-use Rattle.views.specs.Views.{entries, wrote}
+use Rattle.views.specs.Views.{entries}
+use Rattle.views.specs.Fills.{wrote}
 use Rattle.views.specs.ListingLaws.{wrote-nothing, filled-more, has-room, filled-all}
 use Rattle.views.proofs.fill.Statement.{statement}
 use Rattle.views.proofs.fill.Tie as tie
