@@ -99,8 +99,9 @@ module _ (w g : List ℕ) (kind : NodeKind) where
   unfolding entries countKind
   entries-length zero = omega arith
   entries-length (suc n) =
-      length-append (entries w g kind n) (entryAt w g kind n)
-      ∙ add (sameKind kind Alloc) (length (entries w g kind n)) (length (entryAt w g kind n)) (countKind w kind n) (ofKind w kind n) (entries-length n) (entry-at-length n)
+      let both =
+      add (sameKind kind Alloc) (length (entries w g kind n)) (length (entryAt w g kind n)) (countKind w kind n) (ofKind w kind n) (entries-length n) (entry-at-length n) in
+      simp length-append (omega arith)
     where
       add : (b : Bool) (x y c o : ℕ) → x ≡ c * pick b 5 4 → y ≡ o * pick b 5 4 → x + y ≡ (c + o) * pick b 5 4
       add true x y c o e f = omega arith
@@ -109,7 +110,7 @@ module _ (w g : List ℕ) (kind : NodeKind) where
   -- It grows with the slots.
   entries-more : (i : ℕ) → length (entries w g kind (i + 1)) ≡ length (entries w g kind i) + length (entryAt w g kind i)
   unfolding entries
-  entries-more i = rw add-one (length-append (entries w g kind i) (entryAt w g kind i))
+  entries-more i = rw add-one (simp length-append (omega arith))
 
   entries-below : (k n : ℕ) → length (entries w g kind n) ≤ length (entries w g kind (k + n))
   unfolding entries
@@ -117,7 +118,7 @@ module _ (w g : List ℕ) (kind : NodeKind) where
   entries-below (suc k) n =
       let e : suc k + n ≡ suc (k + n) = omega arith in
       let r = entries-below k n in
-      rw e (omega (arith, length-append (entries w g kind (k + n)) (entryAt w g kind (k + n))))
+      rw e (simp length-append (omega arith))
 
   -- One slot further.
   pub filled-more : (l : List ℕ) (i : ℕ) (b c : Bag) → b ≡ wrote (bag l 0) (entries w g kind i) → c ≡ wrote b (entryAt w g kind i)

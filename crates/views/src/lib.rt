@@ -44,7 +44,9 @@ pub fn ticket_answer(words: &[u32], generations: &[u8], n: u32, id: AllocId) -> 
         return 8;
     }
     let at = i.0 as usize;
-    if generations[at] != slots::get_generation(id) {
+    let present = generations[at];
+    let told = slots::get_generation(id);
+    if present != told {
         return 9;
     }
     let node = slots::node_at(words, i);

@@ -20,7 +20,7 @@ unfolding entries
 loop-holds c = (omega arith, refl, wrote-nothing _)
 
 list-slot-requires : tie.Need-list-slot-requires Inv-loop μ-loop
-list-slot-requires c κs = let p = c .before .before .before .before .before .before .pre in has-room _ _ _ _ _ (p .1) _ _ (p .0) (c .before .loop-test .taken) (c .before .before .loop .inv .2)
+list-slot-requires c κs = let p = c .before .before .before .before .before .before .pre in has-room _ _ _ _ _ (p .1) _ _ (p .0) (omega arith) (c .before .before .loop .inv .2)
 
 add-i : tie.Need-add-i Inv-loop μ-loop
 add-i c = omega arith

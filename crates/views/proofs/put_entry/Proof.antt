@@ -25,7 +25,7 @@ add-result : tie.Need-add-result
 add-result c = search needs
 
 same-length : tie.Need-same-length
-same-length c = let a = c .before .before .before .before .before .before .before .args in c .before .out .given ∙ length-set (a .out .now) (a .at) (a .id .0)
+same-length c = c .before .out .given ∙ simp length-set
 
 returns : tie.Need-returns
 returns c = let a = c .before .before .before .before .before .before .before .args in ticket-entry (a .kind) (c .before .before .before .before .before .same-kind .ensures) (a .out .now) (a .at) (a .id) (a .rect) (c .before .before .before .before .if1 .taken) (c .before .before .put-corners .ensures)

@@ -12,8 +12,8 @@ returns c = ticket-out _ _ _ _ (c .before .before .get-index .ensures) (c .if1 .
 cast-at : tie.Need-cast-at
 cast-at c = search needs
 
-shared-slice-read-if2 : tie.Need-shared-slice-read-if2
-shared-slice-read-if2 c = search needs
+shared-slice-read-present : tie.Need-shared-slice-read-present
+shared-slice-read-present c = search needs
 
 get-generation-requires : tie.Need-get-generation-requires
 get-generation-requires c κs = search needs
@@ -40,7 +40,7 @@ ticket-answer-spec =
     get-index-requires
     returns
     cast-at
-    shared-slice-read-if2
+    shared-slice-read-present
     get-generation-requires
     returns-2
     node-at-requires
