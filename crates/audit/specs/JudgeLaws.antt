@@ -5,6 +5,7 @@ use mathlib.Core.Bool.{Bool, true, false, true≢false}
 use mathlib.Core.List.{List}
 use Prim.Native.Nat.{ℕ, _-_, _≤_, _<_}
 use lib.ListN.{length}
+use Rattle.geometry.specs.TestLaws.{and-true-each}
 use Rattle.geometry.specs.declared.Rectangle.{Rectangle}
 use Rattle.geometry.specs.declared.Setup.{Setup}
 use Rattle.slots.specs.Slots.{slot, nodeAt}
@@ -22,9 +23,9 @@ use Rattle.links.specs.FirstLaws.{Firsts}
 use Rattle.links.specs.MergedLaws.{merged-yes, merged-no}
 use Rattle.links.specs.SpareLaws.{live-count}
 use Rattle.links.specs.TestLaws.{Says, fails, both-say, says-as, equal-says}
-use Rattle.scans.specs.Tests.{filledAt, listedAt, notLastAt, holdsAt, firstFrom}
+use Rattle.scans.specs.Tests.{filledAt, listedAt, notLastAt, settledAt, holdsAt, firstFrom}
 use Rattle.scans.specs.FirstLaws.{lowest-breaks, lowest-all}
-use Rattle.scans.specs.declared.Test.the-variants.{Links, Merged as MergedTest, Filled, Listed, NotLast}
+use Rattle.scans.specs.declared.Test.the-variants.{Links, Merged as MergedTest, Filled, Listed, NotLast, Settled}
 use Rattle.audit.specs.Audited.{lowestBad}
 use Rattle.audit.specs.Judged.{brokenAt, whole, isWhole, isFilled, AllMarked, Prepared, Walked, Judged, sound, rule3, rule4, rule5, rule6, rule7}
 use Rattle.audit.specs.declared.Verdict.{Verdict}
@@ -86,6 +87,16 @@ module _ (w fs ms : List ℕ) (n root : ℕ) (u : Setup) (P : Prepared w fs ms n
     judge-walked e {b} q =
         let K = D .linked .0 e in
         record { linked = K; placed = rw q (D .placed K (whole u)); last = λ f. D .stored K (filled-says p (whole u) .0 (sym q ∙ f) .0) }
+
+  -- Where all holds, no place is looked for.
+  pub judge-holds : {filled stored : Bool} → Walked w n root (whole u) filled stored → filled ≡ true → stored ≡ true
+      → {k : ℕ} → k ≡ firstFrom (holdsAt Settled w fs ms n root u) 0 n → n ≤ k → Judged w fs ms n root u 0 0
+  unfolding holdsAt settledAt
+  judge-holds W f g {k} is h =
+      sound (W .linked) (merged-yes w n root (P .table) (W .linked) (λ i b. each i b .0)) (W .placed .0 f) (λ i b. each i b .1) (W .last f .0 g)
+    where
+      each : (i : ℕ) → i < n → (mergedAt w n i ≡ true) × (listedAt w ms u i ≡ true)
+      each i b = and-true-each (mergedAt w n i) (listedAt w ms u i) (lowest-all (settledAt w ms n u) n k is h i b)
 
   module _ {filled stored : Bool} (W : Walked w n root (whole u) filled stored) {a : ℕ} (isA : a ≡ firstFrom (holdsAt MergedTest w fs ms n root u) 0 n) where
     pub judge-split : {v : Verdict} → v ≡ brokenAt 4 a n → a < n → Judges v

@@ -7,6 +7,7 @@ use scans::Test;
 use slots::AllocIndex;
 use steps::Head;
 ghost use mathlib.Core.Path.{_≡_};
+ghost use mathlib.Core.Bool.{true};
 ghost use Prim.Native.Nat.{_-_, _≤_, _<_};
 ghost use lib.ListN.{length};
 ghost use Rattle.lists.specs.Lists.{bag};
@@ -101,6 +102,30 @@ fn audit_linked(
     broken(7, last, n)
 }
 
+// Whether rules 4 to 7 hold, where rule 3 does. This asks rules 4 and 6 of each slot at once, and finds no place.
+fn all_hold(
+    words: &[u32],
+    firsts: &[u32],
+    marks: &[u8],
+    n: u32,
+    root: AllocIndex,
+    setup: Setup,
+    filled: bool,
+    stored: bool,
+) -> bool
+    requires { ⌜ Prepared (now words) (now firsts) (now marks) n (root .0) × Walked (now words) n (root .0) (whole setup) filled stored ⌝ }
+    ensures { λ r. ⌜ (r ≡ true → Judged (now (words .entry)) (now (firsts .entry)) (now (marks .entry)) n (root .0) setup 0 0) ⌝ }
+{
+    if !filled {
+        return false;
+    }
+    if !stored {
+        return false;
+    }
+    let loose = scans::lowest(Test::Settled, words, firsts, marks, n, root, setup);
+    loose >= n
+}
+
 // Rules 3 to 7, with the table of first children and the marks made.
 fn audit_marked(
     words: &[u32],
@@ -122,7 +147,11 @@ fn audit_marked(
         return broken(3, astray, n);
     }
     let filled = is_filled(p, setup);
-    audit_linked(words, firsts, marks, n, root, setup, filled, p.stored)
+    let stored = p.stored;
+    if all_hold(words, firsts, marks, n, root, setup, filled, stored) {
+        return Verdict { rule: 0, place: 0 };
+    }
+    audit_linked(words, firsts, marks, n, root, setup, filled, stored)
 }
 
 // Rules 3 to 7. Makes the table of first children and the marks.

@@ -1,6 +1,6 @@
 -- The tests that the check makes of each slot and each list entry.
 -- Assumes nothing.
-use mathlib.Core.Bool.{Bool, true, _||_, not}
+use mathlib.Core.Bool.{Bool, true, _&&_, _||_, not}
 use mathlib.Core.List.{List}
 use Prim.Native.Nat.{ℕ, zero, suc, _+_}
 use lib.ListN.{getD}
@@ -18,7 +18,7 @@ use Rattle.slots.specs.declared.NodeKind.the-variants.{Container, Alloc, Free, 
 use Rattle.lists.specs.Lists.{freeEntry}
 use Rattle.links.specs.Links.{liveAt, linksAt, mergedAt}
 use Rattle.scans.specs.declared.Test.{Test}
-use Rattle.scans.specs.declared.Test.the-variants.{Links, Merged, Filled, Listed, NotLast}
+use Rattle.scans.specs.declared.Test.the-variants.{Links, Merged, Filled, Listed, NotLast, Settled}
 
 -- The rectangle of an Alloc or Free slot is never empty.
 abbrev pub filledAs : NodeKind → Rectangle → Bool
@@ -49,6 +49,10 @@ listedAt w ms u i =
 unfoldable pub notLastAt : List ℕ → ℕ → ℕ → Bool
 notLastAt w n i = not (liveAt w n i) || (not (isNone (nodeAt w (slot i) .parent)) || not (isNone (nodeAt w (slot i) .next)))
 
+-- Rules 4 and 6 of a slot.
+unfoldable pub settledAt : List ℕ → List ℕ → ℕ → Setup → ℕ → Bool
+settledAt w ms n u i = mergedAt w n i && listedAt w ms u i
+
 -- One test of one slot.
 unfoldable pub holdsAt : Test → List ℕ → List ℕ → List ℕ → ℕ → ℕ → Setup → ℕ → Bool
 holdsAt Links w fs ms n root u i = linksAt w fs n root i
@@ -56,6 +60,7 @@ holdsAt Merged w fs ms n root u i = mergedAt w n i
 holdsAt Filled w fs ms n root u i = filledAt w i
 holdsAt Listed w fs ms n root u i = listedAt w ms u i
 holdsAt NotLast w fs ms n root u i = notLastAt w n i
+holdsAt Settled w fs ms n root u i = settledAt w ms n u i
 
 -- The first place from `from` on, of `left` places, at which a test fails, or the place after them.
 unfoldable pub firstFrom : (ℕ → Bool) → ℕ → ℕ → ℕ

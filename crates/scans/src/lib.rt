@@ -11,7 +11,7 @@ ghost use Rattle.slots.specs.Slots.{HasSlot};
 ghost use Rattle.lists.specs.Lists.{bag, Each};
 ghost use Rattle.lists.specs.FreeLists.{lists};
 ghost use Rattle.links.specs.Links.{Table};
-ghost use Rattle.scans.specs.Tests.{marksStart, filledAt, listedAt, notLastAt, holdsAt, firstFrom, entryBelow};
+ghost use Rattle.scans.specs.Tests.{marksStart, filledAt, listedAt, notLastAt, settledAt, holdsAt, firstFrom, entryBelow};
 ghost use Rattle.scans.specs.Marks.{marksTo, marksFrom, ListsReady};
 
 // The tests that go over the slots one by one.
@@ -21,6 +21,7 @@ pub enum Test {
     Filled,
     Listed,
     NotLast,
+    Settled,
 }
 
 // A side of a rectangle, 0 where its corners are out of order.
@@ -98,6 +99,17 @@ fn not_last_at(words: &[u32], n: u32, i: AllocIndex) -> bool
     !slots::is_none(next)
 }
 
+// Rules 4 and 6 of slot i.
+fn settled_at(words: &[u32], marks: &[u8], n: u32, setup: Setup, i: AllocIndex) -> bool
+    requires { ⌜ Table (now words) n × (12288 ≤ length (now marks)) × (i .0 < n) ⌝ }
+    ensures { λ r. ⌜ r ≡ settledAt (now (words .entry)) (now (marks .entry)) n setup (i .0) ⌝ }
+{
+    if !links::merged_at(words, n, i) {
+        return false;
+    }
+    listed_at(words, marks, setup, i)
+}
+
 // One test of one slot.
 fn holds_at(
     test: Test,
@@ -118,6 +130,7 @@ fn holds_at(
         Test::Filled => filled_at(words, i),
         Test::Listed => listed_at(words, marks, setup, i),
         Test::NotLast => not_last_at(words, n, i),
+        Test::Settled => settled_at(words, marks, n, setup, i),
     }
 }
 

@@ -26,11 +26,17 @@ returns c = let p = c .before .before .before .before .before .before .before .b
 is-filled-requires : tie.Need-is-filled-requires
 is-filled-requires c κs = search needs
 
-audit-linked-requires : tie.Need-audit-linked-requires
-audit-linked-requires c κs = let p = c .before .before .before .before .before .before .before .before .pre in (p .0, judge-walked _ _ _ _ _ (c .before .before .before .before .before .before .before .before .args .setup) (p .0) (walk-decides (p .0) (p .1) (c .before .before .before .before .node-at .ensures) (c .before .before .before .place-of-chain .ensures)) (sym (c .before .before .is-whole .ensures) ∙ not-false _ (c .before .if1 .left)) (c .is-filled .ensures))
+all-hold-requires : tie.Need-all-hold-requires
+all-hold-requires c κs = (c .before .before .before .before .before .before .before .before .pre .0, judge-walked _ _ _ _ _ (c .before .before .before .before .before .before .before .before .args .setup) (c .before .before .before .before .before .before .before .before .pre .0) (walk-decides (c .before .before .before .before .before .before .before .before .pre .0) (c .before .before .before .before .before .before .before .before .pre .1) (c .before .before .before .before .node-at .ensures) (c .before .before .before .place-of-chain .ensures)) (sym (c .before .before .is-whole .ensures) ∙ not-false _ (c .before .if1 .left)) (c .is-filled .ensures))
 
 returns-2 : tie.Need-returns-2
-returns-2 c = search needs
+returns-2 c = c .before .all-hold .ensures (c .if2 .taken)
+
+audit-linked-requires : tie.Need-audit-linked-requires
+audit-linked-requires c κs = (c .before .before .before .before .before .before .before .before .before .before .pre .0, judge-walked _ _ _ _ _ (c .before .before .before .before .before .before .before .before .before .before .args .setup) (c .before .before .before .before .before .before .before .before .before .before .pre .0) (walk-decides (c .before .before .before .before .before .before .before .before .before .before .pre .0) (c .before .before .before .before .before .before .before .before .before .before .pre .1) (c .before .before .before .before .before .before .node-at .ensures) (c .before .before .before .before .before .place-of-chain .ensures)) (sym (c .before .before .before .before .is-whole .ensures) ∙ not-false _ (c .before .before .before .if1 .left)) (c .before .before .is-filled .ensures))
+
+returns-3 : tie.Need-returns-3
+returns-3 c = search needs
 
 pub audit-marked-spec : {M : Type 1} → statement M
 audit-marked-spec =
@@ -43,5 +49,7 @@ audit-marked-spec =
     broken-requires
     returns
     is-filled-requires
+    all-hold-requires
+    returns-2
     audit-linked-requires
-    returns-2)
+    returns-3)

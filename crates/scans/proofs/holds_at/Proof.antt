@@ -33,6 +33,12 @@ enum-told-5 c = search needs
 not-last-at-requires : tie.Need-not-last-at-requires
 not-last-at-requires c κs = search needs
 
+enum-told-6 : tie.Need-enum-told-6
+enum-told-6 c = search needs
+
+settled-at-requires : tie.Need-settled-at-requires
+settled-at-requires c κs = search needs
+
 returns : tie.Need-returns
 unfolding holdsAt
 returns c = rw (c .before .enum-told .given .1) (c .links-at .ensures)
@@ -53,6 +59,10 @@ returns-5 : tie.Need-returns-5
 unfolding holdsAt
 returns-5 c = rw (c .before .enum-told5 .given .1) (c .not-last-at .ensures)
 
+returns-6 : tie.Need-returns-6
+unfolding holdsAt
+returns-6 c = rw (c .before .enum-told6 .given .1) (c .settled-at .ensures)
+
 pub holds-at-spec : {M : Type 1} → statement M
 holds-at-spec =
     tie.close
@@ -67,8 +77,11 @@ holds-at-spec =
     listed-at-requires
     enum-told-5
     not-last-at-requires
+    enum-told-6
+    settled-at-requires
     returns
     returns-2
     returns-3
     returns-4
-    returns-5)
+    returns-5
+    returns-6)
