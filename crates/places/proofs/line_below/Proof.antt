@@ -36,7 +36,7 @@ flipped-requires : tie.Need-flipped-requires Inv-loop μ-loop
 flipped-requires c κs = tt
 
 sub-rest : tie.Need-sub-rest Inv-loop μ-loop
-sub-rest c = c .before .before .before .before .before .loop-test .taken
+sub-rest c = omega (arith, c .before .before .before .before .before .loop-test .taken)
 
 loop-less : tie.Need-loop-less Inv-loop μ-loop
 loop-less c = omega (arith, c .before .before .before .before .before .loop-test .taken)
