@@ -49,11 +49,12 @@ fn made(name: &str, slots: u32) -> Tables {
     match name {
         "wide chain" => sheets::wide(slots),
         "random mix" => sheets::mixed(slots, 7),
+        "deepest calls" => sheets::paired(slots),
         _ => sheets::deep(slots),
     }
 }
 
-const NAMES: [&str; 3] = ["wide chain", "random mix", "deepest nesting"];
+const NAMES: [&str; 4] = ["wide chain", "random mix", "deepest nesting", "deepest calls"];
 
 fn describe(name: &str, tables: &Tables) {
     let of = |kind| tables.live().iter().filter(|&&slot| tables.kind(slot) == kind).count();

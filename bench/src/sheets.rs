@@ -1,4 +1,4 @@
-//! Sound tables with every slot below n: one wide chain, a random mix, and the deepest nesting.
+//! Sound tables with every slot below n: one wide chain, a random mix, the deepest nesting, and the deepest calls.
 
 use model::bases::{nested, LOW};
 use model::random::Stream;
@@ -141,4 +141,31 @@ fn lay_out(tables: &mut Tables, chain: Chain, numbers: &mut Vec<u32>, waiting: &
 /// Containers, each the only child of the one before it, and one Alloc at the bottom.
 pub fn deep(slots: u32) -> Tables {
     nested(slots)
+}
+
+/// Chains of a Container and an Alloc, each inside the Container before it, two Allocs at the bottom: an even number of slots.
+/// The walk passes over a Container whose only child is one, so no tables have more of its calls stand at a time.
+pub fn paired(slots: u32) -> Tables {
+    let mut tables = Tables::zero(slots as usize, slots as usize);
+    let mut place = rect(0, 0, 65_536, 65_536);
+    for level in 0..slots / 2 {
+        let (first, second) = (2 * level, 2 * level + 1);
+        let orientation = if level % 2 == 0 { Orientation::Vertical } else { Orientation::Horizontal };
+        let (mut near, mut far) = (place, place);
+        if orientation == Orientation::Vertical {
+            near.y1 -= 1;
+            far.y0 = near.y1;
+        } else {
+            near.x1 -= 1;
+            far.x0 = near.x1;
+        }
+        let kind = if second + 1 == slots { Kind::Alloc } else { Kind::Container };
+        let parent = if level == 0 { NONE } else { first - 2 };
+        tables.put(first, Slot { parent, next: second, prev: NONE, kind, orientation, rect: near });
+        tables.put(second, Slot { parent, next: NONE, prev: first, kind: Kind::Alloc, orientation, rect: far });
+        place = near;
+    }
+    let (width, height) = (65_536, 65_536);
+    tables.head = Head { width, height, options: LOW, root: 0, spare: NONE, count: slots, lengths: [0; 3] };
+    tables
 }

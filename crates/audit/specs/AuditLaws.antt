@@ -10,21 +10,22 @@ use lib.Dec.{ltb}
 use Rattle.geometry.specs.Choice.{pick}
 use Rattle.geometry.specs.Sides.{setupOf}
 use Rattle.geometry.specs.declared.Bucket.{Bucket}
-use Rattle.geometry.specs.declared.Bucket.the-variants.{Small, Medium, Large}
+use Rattle.geometry.specs.declared.Setup.{Setup}
 use Rattle.lists.specs.Lists.{Each}
 use Rattle.lists.specs.FreeLists.{listOf}
 use Rattle.steps.specs.Spares.{unusedBelow}
 use Rattle.steps.specs.State.{State, listsOf}
-use Rattle.sound.specs.Sound.{Counted, Listed, sheetOf}
+use Rattle.sound.specs.Sound.{Counted, Listed}
 use Rattle.links.specs.Links.{spareWalk}
 use Rattle.links.specs.SpareLaws.{spare-walk-yes, spare-walk-no}
 use Rattle.starts.specs.StartWhen.{LentOf}
-use Rattle.audit.specs.Tests.{firstFrom, listedAt}
+use Rattle.scans.specs.Tests.{firstFrom, listedAt}
+use Rattle.scans.specs.Marks.{marksOf, ListsReady}
 use Rattle.audit.specs.Audited as audited
 use Rattle.audit.specs.Audited.{Rule2, lowestBad, numbersOf, entriesFound, firstsOf, hasEntry, Audited}
 use Rattle.audit.specs.Judged as judged
-use Rattle.audit.specs.Judged.{marksOf, AllMarked, TreeReady, Judged}
-use Rattle.audit.specs.MarkLaws.{marks-say-entries, entries-say-listed}
+use Rattle.audit.specs.Judged.{AllMarked, TreeReady, Judged}
+use Rattle.audit.specs.EntryLaws.{marks-say-entries, entries-say-listed}
 use Rattle.audit.specs.CountLaws.{entries-cases, counted-numbers, numbers-counted, numbers-table}
 use Rattle.audit.specs.declared.Verdict.{Verdict}
 
@@ -71,6 +72,13 @@ module _ (s : State) (L : LentOf s) where
           (λ h. absurd (let z : _≡_ {A = ℕ} 0 1 = sym zero-rule ∙ (ap (λ (u : Verdict). u .rule) is ∙ h .1) in omega arith))
           (entries-cases (listsOf s) (s .head .count))
 
+      ready : ListsReady (listsOf s)
+      ready =
+          record {
+            within = counted .within;
+            below = λ b k h. omega (arith, counted .entries b k h, numbers-table s L N .few);
+          }
+
       module _ {u : ℕ} (isU : u ≡ unusedBelow (s .words) (s .head .count)) where
         -- The walk over the spare chain fails.
         pub audit-spare : spareWalk (s .words) (s .head .count) u (s .head .spare) ≡ false → Audited s 2 0
@@ -78,45 +86,36 @@ module _ (s : State) (L : LentOf s) where
             audited.rule2 counted
             (λ r. true≢false (sym (spare-walk-no (s .words) (s .head .count) (numbers-table s L N) (s .head .spare) r) ∙ (ap (λ k. spareWalk (s .words) (s .head .count) k (s .head .spare)) (sym isU) ∙ e)))
 
-        pub audit-tree-ready : TreeReady (s .words) (listsOf s) (s .head .count) (s .head .count - u)
+        pub audit-tree-ready : TreeReady (s .words) (listsOf s) (s .head .count) (s .head .root .0) (s .head .count - u)
         audit-tree-ready =
-            record {
-              lists =
-                  record {
-                    table = numbers-table s L N;
-                    within = counted .within;
-                    small = counted .entries Small;
-                    medium = counted .entries Medium;
-                    large = counted .entries Large;
-                  };
-              count = ap (λ k. s .head .count - k) isU;
-            }
+            record { table = numbers-table s L N; top = counted .root; lists = ready; count = ap (λ k. s .head .count - k) isU }
 
         module _ (walk : spareWalk (s .words) (s .head .count) u (s .head .spare) ≡ true) where
           spare : Rule2 s
           spare = spare-walk-yes (s .words) (s .head .count) (numbers-table s L N) (s .head .spare) (rw isU at walk)
 
-          abbrev marks : List ℕ
-          marks = marksOf (s .words) (setupOf (s .head .sheet) (s .head .options)) (listsOf s)
+          abbrev setup : Setup
+          setup = setupOf (s .head .sheet) (s .head .options)
 
-          same : (i : ℕ) → i < s .head .count → listedAt (s .words) marks i ≡ hasEntry s i
-          same i h = marks-say-entries s i (omega (arith, numbers-table s L N .few))
+          same : (i : ℕ) → i < s .head .count → listedAt (s .words) (marksOf (listsOf s)) setup i ≡ hasEntry s i
+          same i h = marks-say-entries s ready i (omega (arith, numbers-table s L N .few))
 
-          listed : AllMarked (s .words) marks (s .head .count) → Listed s
+          listed : AllMarked (s .words) (marksOf (listsOf s)) setup (s .head .count) → Listed s
           listed f = entries-say-listed s .1 (λ i h. sym (same i h) ∙ f i h)
 
-          all-marked : Listed s → AllMarked (s .words) marks (s .head .count)
+          all-marked : Listed s → AllMarked (s .words) (marksOf (listsOf s)) setup (s .head .count)
           all-marked f i h = same i h ∙ entries-say-listed s .0 f i h
 
           -- The verdict on the rules from the third on is the verdict.
           pub audit-judged : {r k : ℕ}
-              → Judged (s .words) (firstsOf (s .words) (s .head .count)) marks (s .head .count) (s .head .root .0) (sheetOf (s .head .sheet)) r k → Audited s r k
+              → Judged (s .words) (firstsOf (s .words) (s .head .count)) (marksOf (listsOf s)) (s .head .count) (s .head .root .0) setup r k → Audited s r k
+          unfolding setupOf
           audit-judged (judged.sound a b c d e) =
               audited.sound (record { rule1 = counted; rule2 = spare; rule3 = a; rule4 = b; rule5 = c; rule6 = listed d; rule7 = e })
           audit-judged (judged.rule3 a) = audited.rule3 counted spare a
           audit-judged (judged.rule4 a b) = audited.rule4 counted spare a b
           audit-judged (judged.rule5 a b c) = audited.rule5 counted spare a b c
           audit-judged (judged.rule6 a b c d) =
-              subst (λ k. Audited s 6 k) (sym (lowest-same (listedAt (s .words) marks) (hasEntry s) (s .head .count) same))
+              subst (λ k. Audited s 6 k) (sym (lowest-same (listedAt (s .words) (marksOf (listsOf s)) setup) (hasEntry s) (s .head .count) same))
               (audited.rule6 counted spare a b c (λ f. d (all-marked f)))
           audit-judged (judged.rule7 a b c d e) = audited.rule7 counted spare a b c (listed d) e

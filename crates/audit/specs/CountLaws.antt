@@ -19,8 +19,8 @@ use Rattle.sound.specs.Sound.{Counted}
 use Rattle.links.specs.Links.{Table}
 use Rattle.links.specs.TestLaws.{Says, both-say, not-say, less-says, equal-says}
 use Rattle.starts.specs.StartWhen.{LentOf}
-use Rattle.audit.specs.Tests.{firstFrom, entryBelow}
-use Rattle.audit.specs.FirstLaws.{lowest-breaks, lowest-all}
+use Rattle.scans.specs.Tests.{firstFrom, entryBelow}
+use Rattle.scans.specs.FirstLaws.{lowest-breaks, lowest-all}
 use Rattle.audit.specs.Audited.{numbersHold, numbersOf, verdict, entryFound, entriesFound}
 use Rattle.audit.specs.Judged.{EntriesReady}
 use Rattle.audit.specs.declared.Verdict.{Verdict}

@@ -15,7 +15,7 @@ use Rattle.links.specs.Links.{linksAt, mergedAt}
 use Rattle.starts.specs.Lent.{lent}
 use Rattle.starts.specs.LentLaws.{yes-lent}
 use Rattle.starts.specs.StartWhen.{LentOf}
-use Rattle.audit.specs.Tests.{filledAt, notLastAt}
+use Rattle.scans.specs.Tests.{filledAt, notLastAt}
 use Rattle.audit.specs.Audited.{Rule2, Rule3, Rule4, Rule5, Rule7, lowestBad, entryPlace, firstsOf, hasEntry, Audited, sound, rule1, rule2, rule3, rule4, rule5, rule6, rule7, Checked}
 
 -- Rule i fails and the verdict is i, or it holds and the verdict is as the rules after it say.

@@ -1,9 +1,6 @@
-pub mod Tests
 pub mod Audited
-pub mod LastLaws
 pub mod Judged
-pub mod FirstLaws
-pub mod MarkLaws
+pub mod EntryLaws
 pub mod JudgeLaws
 pub mod TreeLaws
 pub mod CountLaws

@@ -1,10 +1,10 @@
--- The laws of places: what the tests say, that a link has one forest and a forest one place, and what the answer for a chain or a slot tells.
+-- The laws of places: what the tests say, that a link has one forest and a forest one place, and what the answer for a chain tells.
 -- Assumes nothing.
 use mathlib.Core.Path.{_≡_, refl, sym, _∙_, ap}
 use mathlib.Core.Bool.{Bool, true, false, _&&_, not, true≢false}
 use mathlib.Core.Logic.{⊎-elim}
 use mathlib.Core.List.{List}
-use Prim.Native.Nat.{ℕ, suc, _+_, _≤_}
+use Prim.Native.Nat.{ℕ, _+_, _≤_}
 use native.Mathlib.Omega.{arith}
 use lib.Dec.{eqb, leb}
 use borrow.Author.Tests.{eqb-true, eq-eqb, leb-true, leb-false}
@@ -15,19 +15,15 @@ use Rattle.geometry.specs.declared.Orientation.the-variants.{Vertical, Horizont
 use Rattle.geometry.specs.declared.Rectangle.{Rectangle}
 use Rattle.slots.specs.declared.NodeKind.{NodeKind}
 use Rattle.slots.specs.declared.NodeKind.the-variants.{Container, Alloc, Free, Unused}
-use Rattle.sound.specs.View.{Link, none, to, Seen, seen}
+use Rattle.sound.specs.View.{Link, to, Seen, seen}
 use Rattle.sound.specs.Rules.{NotEmpty, Adjoin, join}
 use Rattle.forest.specs.Forest.{Forest, empty, slot, head}
 use Rattle.forest.specs.Follows.{Follows, size}
 use Rattle.forest.specs.Place.{SlotAt, Then, PlaceF}
-use Rattle.places.specs.Places.{adjoins, kidsAt, nextAt, Fitting, Chained, Slotted}
+use Rattle.links.specs.LinkLaws.{to-inj, no-link}
+use Rattle.links.specs.TestLaws.{Says, both-say, says-as, equal-says}
+use Rattle.places.specs.Places.{sameRect, adjoins, kidsAt, nextAt, Fitting, Standing, StoredF, Chained}
 use Rattle.places.specs.declared.Placed.{Placed}
-
-pub to-inj : {i j : ℕ} → to i ≡ to j → i ≡ j
-to-inj p = cc
-
-pub no-link : {i : ℕ} → none ≡ to i → ⊥
-no-link p = let z : _≡_ {A = ℕ} 0 1 = cc in omega arith
 
 pub clash : {b : Bool} → b ≡ true → b ≡ false → ⊥
 clash p q = true≢false (sym p ∙ q)
@@ -40,6 +36,21 @@ three-true a b c d e f h =
 
 true-three : (a b c d e f : ℕ) → (a ≡ b) × (c ≡ d) × (e ≡ f) → (eqb a b && (eqb c d && eqb e f)) ≡ true
 true-three a b c d e f h = rw (eq-eqb a b (h .0), eq-eqb c d (h .1), eq-eqb e f (h .2)) refl
+
+rect-from : (r s : Rectangle) → r .x0 ≡ s .x0 → r .y0 ≡ s .y0 → r .x1 ≡ s .x1 → r .y1 ≡ s .y1 → r ≡ s
+rect-from r s a b c d =
+    ap (λ x. record { x0 = x; y0 = r .y0; x1 = r .x1; y1 = r .y1 }) a
+    ∙ (ap (λ x. record { x0 = s .x0; y0 = x; x1 = r .x1; y1 = r .y1 }) b
+    ∙ (ap (λ x. record { x0 = s .x0; y0 = s .y0; x1 = x; y1 = r .y1 }) c ∙ ap (λ x. record { x0 = s .x0; y0 = s .y0; x1 = s .x1; y1 = x }) d))
+
+-- Two rectangles are the same exactly where the test says so.
+pub same-rect-says : (r s : Rectangle) → Says (sameRect r s) (r ≡ s)
+unfolding sameRect
+same-rect-says r s =
+    says-as (both-say (equal-says (r .x0) (s .x0)) (both-say (equal-says (r .y0) (s .y0)) (both-say (equal-says (r .x1) (s .x1)) (equal-says (r .y1) (s .y1))))) (
+      λ e. rect-from r s (e .0) (e .1 .0) (e .1 .1 .0) (e .1 .1 .1),
+      λ e. (ap (λ (q : Rectangle). q .x0) e, (ap (λ (q : Rectangle). q .y0) e, (ap (λ (q : Rectangle). q .x1) e, ap (λ (q : Rectangle). q .y1) e))),
+    )
 
 -- Where the test says yes, the second adjoins the first.
 pub adjoins-true : (o : Orientation) (r s : Rectangle) → adjoins o r s ≡ true → Adjoin o r s
@@ -127,67 +138,29 @@ chain-fits o (slot a B T) j e P Q oneP oneQ true true r s f g = go (adjoins o r 
         let q = oneQ s (h .2 .0) g (h .2 .1) in
         clash (true-adjoins o r s (rw (p, q) (h .2 .2))) z
 
--- The answer p for the chain that starts at slot i, with k slots to spend.
-module _ {w fs : List ℕ} {i k : ℕ} {p : Placed} (c : Chained w fs i k p) where
-  -- Where it ended with nothing left, a forest of k slots follows from i.
-  pub whole-follows : p .ended ≡ true → p .left ≡ 0
-      → (F : Forest) × (head F ≡ to i) × Follows (kidsAt w fs) (nextAt w) F × (size F ≡ k)
-  whole-follows e z = let g = c .ended e in (g .0, g .1, g .2, omega (arith, g .3))
-
-  -- A forest of at most k slots follows from i: then it ended, and leaves what the forest does not take.
-  pub follows-ended : (F : Forest) → head F ≡ to i → Follows (kidsAt w fs) (nextAt w) F → size F ≤ k
-      → (p .ended ≡ true) × (size F + p .left ≡ k) × Fitting (p .fits) (PlaceF (seen w) F) (p .at)
-  follows-ended F h f l = go (p .ended) refl
+-- The answer r for the chain that starts at slot i, with k slots to spend, of which a forest F stands in the tables.
+module _ {w fs : List ℕ} {i : ℕ} {p v : Link} {o : Orientation} {k : ℕ} {r : Placed} (c : Chained w fs i p v o k r)
+    (F : Forest) (h : head F ≡ to i) (f : Standing w fs p v o F) (l : size F ≤ k) where
+  -- It ended, and leaves what the forest does not take.
+  pub standing-ended : (r .ended ≡ true) × (size F + r .left ≡ k) × Fitting (r .fits) (PlaceF (seen w) F) (r .at)
+      × (r .fits ≡ true → Says (r .stored) (StoredF (seen w) F))
+  standing-ended = go (r .ended) refl
     where
-      go : (b : Bool) → p .ended ≡ b → (p .ended ≡ true) × (size F + p .left ≡ k) × Fitting (p .fits) (PlaceF (seen w) F) (p .at)
+      go : (b : Bool) → r .ended ≡ b
+          → (r .ended ≡ true) × (size F + r .left ≡ k) × Fitting (r .fits) (PlaceF (seen w) F) (r .at) × (r .fits ≡ true → Says (r .stored) (StoredF (seen w) F))
       go true e =
           let g = c .ended e in
-          let z : g .0 ≡ F = follows-one (kidsAt w fs) (nextAt w) (g .0) F (g .2) f (g .1 ∙ sym h) in
-          (e, rw z at (g .3), rw z at (g .4))
+          let z : g .0 ≡ F = follows-one (kidsAt w fs) (nextAt w) (g .0) F (g .2 .0) (f .0) (g .1 ∙ sym h) in
+          (e, rw z at (g .3), rw z at (g .4), rw z at (g .5))
       go false e = absurd (c .out e F h f l)
 
-  -- A forest of k slots follows from i.
-  module _ (F : Forest) (h : head F ≡ to i) (f : Follows (kidsAt w fs) (nextAt w) F) (z : size F ≡ k) where
-    found : (p .ended ≡ true) × (size F + p .left ≡ k) × Fitting (p .fits) (PlaceF (seen w) F) (p .at)
-    found = follows-ended F h f (omega arith)
+  -- Where it fits, the forest has the place r .at, and the verdict on its last slot is right.
+  pub fits-placed : r .fits ≡ true → PlaceF (seen w) F (r .at)
+  fits-placed e = rw e at (standing-ended .2)
 
-    -- Then it ended with nothing left.
-    pub follows-whole : (p .ended ≡ true) × (p .left ≡ 0)
-    follows-whole = (found .0, omega (arith, found .1))
+  pub fits-stored : r .fits ≡ true → Says (r .stored) (StoredF (seen w) F)
+  fits-stored e = standing-ended .3 e
 
-    -- Where it fits, the forest has the place p .at.
-    pub fits-placed : p .fits ≡ true → PlaceF (seen w) F (p .at)
-    fits-placed e = rw e at (found .2)
-
-    -- Where it does not fit, the forest has no place.
-    pub unfit-unplaced : p .fits ≡ false → (q : Rectangle) → PlaceF (seen w) F q → ⊥
-    unfit-unplaced e = rw e at (found .2)
-
-    -- Where the forest has a place, it fits, and p .at is that place.
-    pub placed-fits : (r : Rectangle) → PlaceF (seen w) F r → (p .fits ≡ true) × (p .at ≡ r)
-    placed-fits r q = fitting-is (p .fits) (PlaceF (seen w) F) (place-one (seen w) F) (p .at) r (found .2) q
-
--- The answer p for slot i alone, with k slots to spend, where a chain C of children follows that leaves one slot of them at least.
-module _ {w fs : List ℕ} {i k : ℕ} {p : Placed} (s : Slotted w fs i k p)
-    (C : Forest) (h : kidsAt w fs i ≡ head C) (f : Follows (kidsAt w fs) (nextAt w) C) (l : suc (size C) ≤ k) where
-  -- It ended, and leaves what the slot and its children do not take.
-  pub slot-ended : (p .ended ≡ true) × (suc (size C) + p .left ≡ k) × Fitting (p .fits) (SlotAt (seen w i .kind) (seen w i .rect) (PlaceF (seen w) C)) (p .at)
-  slot-ended = go (p .ended) refl
-    where
-      go : (b : Bool) → p .ended ≡ b
-          → (p .ended ≡ true) × (suc (size C) + p .left ≡ k) × Fitting (p .fits) (SlotAt (seen w i .kind) (seen w i .rect) (PlaceF (seen w) C)) (p .at)
-      go true e =
-          let g = s .ended e in
-          let z : g .0 ≡ C = follows-one (kidsAt w fs) (nextAt w) (g .0) C (g .2) f (sym (g .1) ∙ h) in
-          (e, rw z at (g .3), rw z at (g .4))
-      go false e = absurd (s .out e C h f l)
-
-  -- Where it fits, the slot has the place p .at.
-  pub slot-placed : p .fits ≡ true → SlotAt (seen w i .kind) (seen w i .rect) (PlaceF (seen w) C) (p .at)
-  slot-placed e = rw e at (slot-ended .2)
-
-  -- Where the slot has a place, it fits, and p .at is that place.
-  pub placed-slot : (r : Rectangle) → SlotAt (seen w i .kind) (seen w i .rect) (PlaceF (seen w) C) r → (p .fits ≡ true) × (p .at ≡ r)
-  placed-slot r q =
-      fitting-is (p .fits) (SlotAt (seen w i .kind) (seen w i .rect) (PlaceF (seen w) C))
-      (slot-one (seen w i .kind) (seen w i .rect) (PlaceF (seen w) C) (place-one (seen w) C)) (p .at) r (slot-ended .2) q
+  -- Where the forest has a place, it fits, and r .at is that place.
+  pub placed-fits : (q : Rectangle) → PlaceF (seen w) F q → (r .fits ≡ true) × (r .at ≡ q)
+  placed-fits q h = fitting-is (r .fits) (PlaceF (seen w) F) (place-one (seen w) F) (r .at) q (standing-ended .2) h

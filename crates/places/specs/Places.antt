@@ -1,37 +1,78 @@
--- What the place functions promise: the forest that follows from a slot within the count, and its place.
+-- What the place functions promise: the forest that stands in the tables from a slot on, within the count, and its place.
 -- Assumes nothing.
 use mathlib.Core.Path.{_≡_}
 use mathlib.Core.Bool.{Bool, true, false, _&&_, not}
 use mathlib.Core.List.{List}
-use Prim.Native.Nat.{ℕ, suc, _+_, _-_, _*_, _≤_}
+use Prim.Native.Nat.{ℕ, suc, _+_, _-_, _≤_, _<_}
 use lib.ListN.{length, getD}
-use lib.Dec.{eqb}
-use Rattle.geometry.specs.Cuts.{emptyRect, noRect}
+use lib.Dec.{eqb, ltb}
+use Rattle.geometry.specs.Choice.{pick}
+use Rattle.geometry.specs.Cuts.{flip, emptyRect, noRect}
 use Rattle.geometry.specs.declared.Orientation.{Orientation}
 use Rattle.geometry.specs.declared.Orientation.the-variants.{Vertical, Horizontal}
 use Rattle.geometry.specs.declared.Rectangle.{Rectangle}
-use Rattle.slots.specs.declared.NodeKind.the-variants.{Container}
-use Rattle.sound.specs.View.{Link, to, seen, Live}
+use Rattle.slots.specs.Slots as slots
+use Rattle.slots.specs.Slots.{isNone, sameKind, sameOrientation, nodeAt}
+use Rattle.slots.specs.declared.AllocIndex.{AllocIndex}
+use Rattle.slots.specs.declared.Node.{Node}
+use Rattle.slots.specs.declared.NodeKind.the-variants.{Container, Unused}
+use Rattle.sound.specs.View.{Link, none, to, Seen, seen, inUse}
 use Rattle.sound.specs.Rules.{join}
-use Rattle.forest.specs.Forest.{Forest, head}
+use Rattle.forest.specs.Forest.{Forest, empty, slot, head, Rep}
 use Rattle.forest.specs.Follows.{Follows, size, down}
 use Rattle.forest.specs.Place.{SlotAt, PlaceF}
+use Rattle.links.specs.Links.{Table}
+use Rattle.links.specs.TestLaws.{Says}
 use Rattle.places.specs.declared.Placed.{Placed}
+
+unfoldable pub sameRect : Rectangle → Rectangle → Bool
+sameRect r s = eqb (r .x0) (s .x0) && (eqb (r .y0) (s .y0) && (eqb (r .x1) (s .x1) && eqb (r .y1) (s .y1)))
 
 -- s adjoins r along an orientation, as a test (`adjoins-true`, `true-adjoins`).
 unfoldable pub adjoins : Orientation → Rectangle → Rectangle → Bool
 adjoins Vertical r s = eqb (r .y1) (s .y0) && (eqb (r .x0) (s .x0) && eqb (r .x1) (s .x1))
 adjoins Horizontal r s = eqb (r .x1) (s .x0) && (eqb (r .y0) (s .y0) && eqb (r .y1) (s .y1))
 
--- A first member and the rest each fit, and adjoin.
+-- What was seen of a chain and what comes after it each fit, and adjoin.
 abbrev pub fitsTogether : Orientation → Placed → Placed → Bool
 fitsTogether o a b = a .fits && (b .fits && adjoins o (a .at) (b .at))
 
 abbrev pub outOfSlots : Placed
-outOfSlots = record { ended = false; fits = false; at = noRect; left = 0 }
+outOfSlots = record { ended = false; fits = false; at = noRect; stored = false; left = 0 }
+
+abbrev pub nothingYet : ℕ → Placed
+nothingYet left = record { ended = false; fits = false; at = noRect; stored = false; left = left }
 
 abbrev pub ownPlace : Rectangle → ℕ → Placed
-ownPlace r left = record { ended = true; fits = not (emptyRect r); at = r; left = left - 1 }
+ownPlace r left = record { ended = true; fits = not (emptyRect r); at = r; stored = true; left = left - 1 }
+
+-- A Container's place, with whether its stored rectangle is that.
+abbrev pub storedAs : Placed → Rectangle → Placed
+storedAs p r = record { ended = p .ended; fits = p .fits; at = p .at; stored = sameRect (p .at) r; left = p .left }
+
+-- Two places one after the other, as one.
+unfoldable pub together : Orientation → Placed → Placed → Placed
+together o a b =
+    pick (b .ended) (record { ended = true; fits = fitsTogether o a b; at = join (a .at) (b .at); stored = b .stored; left = b .left }) b
+
+-- One member more of a chain: the first has no prev.
+unfoldable pub added : Orientation → AllocIndex → Placed → Placed → Placed
+added o prev a b = pick (isNone prev) b (together o a b)
+
+-- A slot in use with this parent, this prev and this orientation.
+unfoldable pub standsAs : Node → AllocIndex → AllocIndex → Orientation → Bool
+standsAs m p v o = eqb (m .parent .0) (p .0) && (eqb (m .prev .0) (v .0) && (sameOrientation (m .orientation) o && not (sameKind (m .kind) Unused)))
+
+-- The only child of its parent, and a Container.
+unfoldable pub isLone : Node → AllocIndex → Orientation → Bool
+isLone m p o = sameKind (m .kind) Container && (isNone (m .next) && standsAs m p (slots.slot 4294967295) o)
+
+unfoldable pub loneAt : List ℕ → ℕ → AllocIndex → AllocIndex → Orientation → Bool
+loneAt w n i p o = ltb (i .0) n && isLone (nodeAt w i) p o
+
+-- Slot i is one of n, and the count has a slot left for it.
+unfoldable pub heldBy : ℕ → ℕ → ℕ → Bool
+heldBy n i left = ltb i n && ltb 0 left
 
 -- The links that the walk follows: a Container's first child, by the table of first children, and next.
 unfoldable pub kidsAt : List ℕ → List ℕ → ℕ → Link
@@ -40,38 +81,60 @@ kidsAt w fs i = down (seen w i .kind) (to (getD fs i 0))
 unfoldable pub nextAt : List ℕ → ℕ → Link
 nextAt w i = seen w i .next
 
--- What the functions ask. With n the length of the table of first children: slot i is live, and so is every slot that a live slot's
--- next or a live Container's first child names.
-pub record Ready (w fs : List ℕ) (i : ℕ) : Type 0 where
-  pub table : length fs * 8 ≤ length w
-  pub few : length fs ≤ 4096
-  pub live : Live (seen w) (length fs) i
-  pub nexts : (j k : ℕ) → Live (seen w) (length fs) j → seen w j .next ≡ to k → Live (seen w) (length fs) k
-  pub firsts : (j : ℕ) → Live (seen w) (length fs) j → seen w j .kind ≡ Container → Live (seen w) (length fs) (getD fs j 0)
+-- What the functions ask: the slot table holds as many slots as the table of first children.
+abbrev pub Ready : List ℕ → List ℕ → Type 0
+Ready w fs = Table w (length fs)
 
-abbrev pub Contained : List ℕ → ℕ → Type 0
-Contained w i = seen w i .kind ≡ Container
+-- Slot i is one of them, in use, with contents m, and the count has a slot left for it.
+pub record Held (w fs : List ℕ) (i : ℕ) (m : Node) (left : ℕ) : Type 0 where
+  pub below : i < length fs
+  pub is : m ≡ nodeAt w (slots.slot i)
+  pub used : inUse (m .kind) ≡ true
+  pub some : 0 < left
 
 -- What a verdict says: the place where it fits, and that there is none where it doesn't.
 abbrev pub Fitting : Bool → (Rectangle → Type 0) → Rectangle → Type 0
 Fitting true P r = P r
 Fitting false P r = (q : Rectangle) → P q → ⊥
 
--- The chain that starts at slot i.
-pub record Chained (w fs : List ℕ) (i left : ℕ) (p : Placed) : Type 0 where
-  pub ended : p .ended ≡ true → (F : Forest) × (head F ≡ to i) × Follows (kidsAt w fs) (nextAt w) F × (size F + p .left ≡ left)
-      × Fitting (p .fits) (PlaceF (seen w) F) (p .at)
-  pub out : p .ended ≡ false → (F : Forest) → head F ≡ to i → Follows (kidsAt w fs) (nextAt w) F → size F ≤ left → ⊥
+-- The chain F stands in the tables: the links lead from slot to slot of it, and each slot has its parent, prev and orientation.
+abbrev pub Standing : List ℕ → List ℕ → Link → Link → Orientation → Forest → Type 0
+Standing w fs p v o F = Follows (kidsAt w fs) (nextAt w) F × Rep (seen w) (length fs) p v o F
 
--- Slot i alone, with what is below it.
-pub record Slotted (w fs : List ℕ) (i left : ℕ) (p : Placed) : Type 0 where
-  pub ended : p .ended ≡ true → (C : Forest) × (kidsAt w fs i ≡ head C) × Follows (kidsAt w fs) (nextAt w) C × (suc (size C) + p .left ≡ left)
-      × Fitting (p .fits) (SlotAt (seen w i .kind) (seen w i .rect) (PlaceF (seen w) C)) (p .at)
-  pub out : p .ended ≡ false → (C : Forest) → kidsAt w fs i ≡ head C → Follows (kidsAt w fs) (nextAt w) C → suc (size C) ≤ left → ⊥
+-- A slot's stored rectangle is its place, if it is a Container over the chain C.
+abbrev pub StoredAt : (ℕ → Seen) → ℕ → Forest → Type 0
+StoredAt get i C = get i .kind ≡ Container → PlaceF get C (get i .rect)
 
--- Two places one after the other, as one.
-pub record Together (o : Orientation) (a b p : Placed) : Type 0 where
-  pub ended : p .ended ≡ b .ended
-  pub left : p .left ≡ b .left
-  pub fits : b .ended ≡ true → p .fits ≡ fitsTogether o a b
-  pub at : b .ended ≡ true → p .at ≡ join (a .at) (b .at)
+-- The same of a chain's last slot.
+abbrev pub AtLast : Forest → Type 0 → Type 0 → Type 0
+AtLast empty here later = here
+AtLast (slot j B T) here later = later
+
+abbrev pub StoredF : (ℕ → Seen) → Forest → Type 0
+StoredF get empty = Unit {0}
+StoredF get (slot i C S) = AtLast S (StoredAt get i C) (StoredF get S)
+
+-- The chain that starts at slot i, under parent p, after v, along o.
+pub record Chained (w fs : List ℕ) (i : ℕ) (p v : Link) (o : Orientation) (left : ℕ) (r : Placed) : Type 0 where
+  pub ended : r .ended ≡ true → (F : Forest) × (head F ≡ to i) × Standing w fs p v o F × (size F + r .left ≡ left)
+      × Fitting (r .fits) (PlaceF (seen w) F) (r .at) × (r .fits ≡ true → Says (r .stored) (StoredF (seen w) F))
+  pub out : r .ended ≡ false → (F : Forest) → head F ≡ to i → Standing w fs p v o F → size F ≤ left → ⊥
+
+-- The chain of children of Container i, which runs along o.
+pub record Contained (w fs : List ℕ) (i : ℕ) (o : Orientation) (left : ℕ) (r : Placed) : Type 0 where
+  pub ended : r .ended ≡ true → (C : Forest) × (to (getD fs i 0) ≡ head C) × Standing w fs (to i) none o C × (size C + r .left ≡ left)
+      × Fitting (r .fits) (PlaceF (seen w) C) (r .at)
+  pub out : r .ended ≡ false → (C : Forest) → to (getD fs i 0) ≡ head C → Standing w fs (to i) none o C → size C ≤ left → ⊥
+
+-- Slot i alone, along o, with what is below it.
+pub record Slotted (w fs : List ℕ) (i : ℕ) (o : Orientation) (left : ℕ) (r : Placed) : Type 0 where
+  pub ended : r .ended ≡ true → (C : Forest) × (kidsAt w fs i ≡ head C) × Standing w fs (to i) none (flip o) C × (suc (size C) + r .left ≡ left)
+      × Fitting (r .fits) (SlotAt (seen w i .kind) (seen w i .rect) (PlaceF (seen w) C)) (r .at)
+      × (r .fits ≡ true → Says (r .stored) (StoredAt (seen w) i C))
+  pub out : r .ended ≡ false → (C : Forest) → kidsAt w fs i ≡ head C → Standing w fs (to i) none (flip o) C → suc (size C) ≤ left → ⊥
+
+-- What is below Container j, along d and within `rest` slots, is what is below Container i, along o and within `left`, with all between.
+pub record Lined (w fs : List ℕ) (i : ℕ) (o : Orientation) (left j : ℕ) (d : Orientation) (rest : ℕ) : Type 0 where
+  pub below : j < length fs
+  pub less : rest ≤ left
+  pub same : (r : Placed) → Contained w fs j d rest r → Contained w fs i o left r

@@ -27,13 +27,13 @@ array-share-prefix-firsts : tie.Need-array-share-prefix-firsts
 array-share-prefix-firsts c = search needs
 
 slice-aggregate-audit-marked : tie.Need-slice-aggregate-audit-marked
-slice-aggregate-audit-marked c = sym (front-length _ _ (omega (arith, c .before .before .before .before .before .before .before .before .before .before .before .before .before .pre .lists .table .few, c .before .before .before .before .before .enter-firsts .kept .1 .0)))
+slice-aggregate-audit-marked c = sym (front-length _ _ (omega (arith, c .before .before .before .before .before .before .before .before .before .before .before .before .before .pre .table .few, c .before .before .before .before .before .enter-firsts .kept .1 .0)))
 
 slice-aggregate-audit-marked-2 : tie.Need-slice-aggregate-audit-marked-2
 slice-aggregate-audit-marked-2 c = search needs
 
 audit-marked-requires : tie.Need-audit-marked-requires
-audit-marked-requires c κs = let p = c .before .before .before .before .before .before .before .before .before .before .before .before .before .before .pre in tree-prepared p (c .before .before .before .before .before .before .enter-firsts .ensures) _ (omega (arith, p .lists .table .few, c .before .before .before .mark-lists .kept .1 .0))
+audit-marked-requires c κs = let p = c .before .before .before .before .before .before .before .before .before .before .before .before .before .before .pre in (tree-prepared p (c .before .before .before .before .before .before .enter-firsts .ensures) _ (omega (arith, c .before .before .before .mark-lists .kept .0)), p .count)
 
 returns : tie.Need-returns
 returns c = tree-judged _ _ _ _ _ _ (c .before .before .before .before .before .before .before .before .before .setup-of .ensures .0) (c .before .before .before .before .before .before .before .enter-firsts .ensures) (c .before .before .before .before .mark-lists .ensures) (c .audit-marked .ensures)

@@ -1,0 +1,4 @@
+pub mod Tests
+pub mod Marks
+pub mod FirstLaws
+pub mod MarkLaws
