@@ -5,8 +5,7 @@ use Prim.Native.Nat.{ℕ}
 use lib.ListN.{length, getD}
 use lib.Dec.{leb}
 use Rattle.geometry.specs.Choice.{pick}
-use Rattle.geometry.specs.Buckets.{bucketOf}
-use Rattle.geometry.specs.Cuts.{noRect, widthOf, heightOf, atCorner, cutOf}
+use Rattle.geometry.specs.Cuts.{noRect, atCorner, cutOf}
 use Rattle.geometry.specs.Sides.{setupOf}
 use Rattle.geometry.specs.declared.Bucket.{Bucket}
 use Rattle.geometry.specs.declared.Cut.{Cut}
@@ -17,7 +16,8 @@ use Rattle.slots.specs.Slots.{nodeAt}
 use Rattle.slots.specs.Tickets.{ticketOf}
 use Rattle.slots.specs.declared.AllocId.{AllocId}
 use Rattle.slots.specs.declared.AllocIndex.{AllocIndex}
-use Rattle.lists.specs.FreeLists.{Lists, removedFrom, pushedTo}
+use Rattle.lists.specs.FreeLists.{Lists, removedFrom}
+use Rattle.entries.specs.Entries.{entered}
 use Rattle.search.specs.Search.{Searched, findSuitable}
 use Rattle.search.specs.declared.Chosen.{Chosen}
 use Rattle.search.specs.declared.Chosen.the-variants.{At, Nothing}
@@ -59,10 +59,6 @@ withLists h w g l =
       lengths = record { small = l .small .len; medium = l .medium .len; large = l .large .len };
     })
     w g (l .small .table) (l .medium .table) (l .large .table)
-
--- A Free slot is pushed onto the list of its rectangle's bucket.
-abbrev pub entered : List ℕ → Setup → AllocIndex → Rectangle → Lists → Lists
-entered w s i r l = pushedTo w (i .0) (bucketOf (s .small) (s .large) (widthOf r) (heightOf r)) l
 
 -- Push split, then leftover: the pieces that the shape has.
 unfoldable pub piecesEntered : Shape → List ℕ → Setup → News → Cut → Lists → Lists
