@@ -14,7 +14,7 @@ free-list-for-size-requires : tie.Need-free-list-for-size-requires
 free-list-for-size-requires c κs = search needs
 
 push-to-requires : tie.Need-push-to-requires
-push-to-requires c κs = c .before .before .before .before .before .before .before .before .before .before .pre .0 _
+push-to-requires c κs = c .before .before .before .before .before .before .before .before .before .before .pre .0 (c .before .before .before .free-list-for-size .result)
 
 same-length : tie.Need-same-length
 same-length c = search needs
