@@ -1,1 +1,3 @@
 pub mod NewSlots
+pub mod News
+pub mod Writes
