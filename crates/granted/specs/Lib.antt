@@ -1,3 +1,4 @@
 pub mod NewSlots
 pub mod News
 pub mod Writes
+pub mod CutShapes
