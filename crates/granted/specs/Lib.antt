@@ -2,3 +2,6 @@ pub mod NewSlots
 pub mod News
 pub mod Writes
 pub mod CutShapes
+pub mod Members
+pub mod CutSteps
+pub mod Carved
