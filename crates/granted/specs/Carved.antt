@@ -122,9 +122,13 @@ module _ {get get′ : ℕ → Seen} {n root i : ℕ} {q all : Rectangle} (L : L
         kept = along-left-keeps get get′ n n′ root i L all P lv free-i s a l q u t W′ some-q some-u some-t op;
         merged = along-left-merged get get′ n n′ root i L M lv free-i s a l q u t W′ op;
         alloc = (inr (inr (inl refl)), ap (λ m. m .kind) (op .alloc), ap (λ m. m .rect) (op .alloc));
-        written = all-of (Became get′ a (piece s t ∷ piece l u ∷ [])) (i ∷ l ∷ a ∷ s ∷ [])
-            (box (ap (λ m. m .kind) (op .chosen)), (free (ap (λ m. m .kind) (op .left)) (inr (inl refl)),
-            (request refl (ap (λ m. m .kind) (op .alloc)), (free (ap (λ m. m .kind) (op .split)) (inl refl), tt))));
+        written = all-of (Became get′ a (piece s t ∷ piece l u ∷ [])) (i ∷ l ∷ a ∷ s ∷ []) (
+          box (ap (λ m. m .kind) (op .chosen)),
+          (
+            free (ap (λ m. m .kind) (op .left)) (inr (inl refl)),
+            (request refl (ap (λ m. m .kind) (op .alloc)), (free (ap (λ m. m .kind) (op .split)) (inl refl), tt)),
+          ),
+        );
         pieces-hold = (ap (λ m. m .rect) (op .split), (ap (λ m. m .rect) (op .left), tt));
         others = λ j m. but-prev (op .rest) j (λ x. m (all-of (λ y. In y (i ∷ l ∷ a ∷ s ∷ [])) (i ∷ s ∷ a ∷ l ∷ [])
             (inl refl, (inr (inr (inr (inl refl))), (inr (inr (inl refl)), (inr (inl refl), tt)))) j x));
@@ -155,9 +159,16 @@ module _ {get get′ : ℕ → Seen} {n root i : ℕ} {q all : Rectangle} (L : L
         kept = across-left-keeps get get′ n n′ root i L all P lv free-i s c a l z q u t W′ some-q some-u some-t op;
         merged = across-left-merged get get′ n n′ root i L M lv free-i s c a l z q u t W′ op;
         alloc = (inr (inr (inl refl)), ap (λ m. m .kind) (op .alloc), ap (λ m. m .rect) (op .alloc));
-        written = all-of (Became get′ a (piece s t ∷ piece l u ∷ [])) (i ∷ l ∷ a ∷ c ∷ s ∷ [])
-            (box (ap (λ m. m .kind) (op .chosen)), (free (ap (λ m. m .kind) (op .left)) (inr (inl refl)), (request refl (ap (λ m. m .kind) (op .alloc)),
-            (box (ap (λ m. m .kind) (op .box)), (free (ap (λ m. m .kind) (op .split)) (inl refl), tt)))));
+        written = all-of (Became get′ a (piece s t ∷ piece l u ∷ [])) (i ∷ l ∷ a ∷ c ∷ s ∷ []) (
+          box (ap (λ m. m .kind) (op .chosen)),
+          (
+            free (ap (λ m. m .kind) (op .left)) (inr (inl refl)),
+            (
+              request refl (ap (λ m. m .kind) (op .alloc)),
+              (box (ap (λ m. m .kind) (op .box)), (free (ap (λ m. m .kind) (op .split)) (inl refl), tt)),
+            ),
+          ),
+        );
         pieces-hold = (ap (λ m. m .rect) (op .split), (ap (λ m. m .rect) (op .left), tt));
         others = λ j m. same-prev (op .other j (λ x. m (all-of (λ y. In y (i ∷ l ∷ a ∷ c ∷ s ∷ [])) (i ∷ c ∷ a ∷ l ∷ s ∷ [])
             (inl refl, (inr (inr (inr (inl refl))), (inr (inr (inl refl)), (inr (inl refl), (inr (inr (inr (inr (inl refl)))), tt))))) j x)));

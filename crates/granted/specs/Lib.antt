@@ -5,3 +5,4 @@ pub mod CutShapes
 pub mod Members
 pub mod CutSteps
 pub mod Carved
+pub mod TableCut

@@ -42,6 +42,21 @@ pub record Pair (get get′ : ℕ → Seen) (p : ℕ) (o : Orientation) (a : ℕ
   pub last : get′ b ≡ cell (to p) none (to a) Free o t
   pub other : (j : ℕ) → (In j (a ∷ b ∷ []) → ⊥) → get′ j ≡ get j
 
+-- Each keeps the table's length.
+pub length-turned : (w : List ℕ) (i : AllocIndex) (q : Rectangle) → length (turned w i q) ≡ length w
+unfolding turned
+length-turned w i q = simp length-stored
+
+pub length-beside : (w : List ℕ) (i s : AllocIndex) (t : Rectangle) → length (beside w i s t) ≡ length w
+unfolding beside answeredBy
+length-beside w i s t =
+    pick-elim (λ (u : List ℕ). length u ≡ length w) (isNone (nodeAt w i .next)) _ _ (λ _. simp length-stored) (λ _. simp length-stored)
+
+pub length-pair : (w : List ℕ) (p : AllocIndex) (o : Orientation) (a : AllocIndex) (k : NodeKind) (r : Rectangle) (b : AllocIndex) (t : Rectangle)
+    → length (pairUnder w p o a k r b t) ≡ length w
+unfolding pairUnder
+length-pair w p o a k r b t = simp length-stored
+
 -- A slot after a store at it, and any other slot.
 module _ (w : List ℕ) (i : AllocIndex) (x : Store) where
   seen-same : HasSlot w i → seen (stored w i x) (i .0) ≡ seenAs (after x (nodeAt w i))
