@@ -6,3 +6,4 @@ pub mod Members
 pub mod CutSteps
 pub mod Carved
 pub mod TableCut
+pub mod Stocked
