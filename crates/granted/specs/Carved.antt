@@ -3,12 +3,13 @@
 -- Assumes nothing.
 use Prim.Native.Nat.{ℕ, _≤_, _<_}
 use mathlib.Core.Path.{_≡_, refl, sym, _∙_, ap}
+use mathlib.Core.Bool.{true}
 use mathlib.Core.Logic.{inl, inr, ⊎-elim}
 use mathlib.Core.List.{List, [], _∷_}
 use native.Mathlib.Decide.{ℕ-discrete}
 use Rattle.geometry.specs.declared.Rectangle.{Rectangle}
 use Rattle.slots.specs.declared.NodeKind.the-variants.{Container, Alloc, Free}
-use Rattle.sound.specs.View.{Link, none, to, Seen, Live}
+use Rattle.sound.specs.View.{Link, none, to, Seen, Live, inUse}
 use Rattle.sound.specs.Rules.{NotEmpty, PlaceChain, it}
 use Rattle.sound.specs.Sound.{Linked, Merged}
 use Rattle.forest.specs.Pigeon.{In}
@@ -53,6 +54,16 @@ pub record Carving (get get′ : ℕ → Seen) (n n′ root i a : ℕ) (new : Li
   pub written : (j : ℕ) → In j (i ∷ new) → Became get′ a pieces j
   pub pieces-hold : Hold get′ pieces
   pub others : (j : ℕ) → (In j (i ∷ new) → ⊥) → get′ j ≡ withPrev (get j) (get′ j .prev)
+
+-- Every slot written is in use.
+pub written-used : {get get′ : ℕ → Seen} {n n′ root i a : ℕ} {new : List ℕ} {pieces : List Piece} {q : Rectangle}
+    → Carving get get′ n n′ root i a new pieces q → (j : ℕ) → In j (i ∷ new) → inUse (get′ j .kind) ≡ true
+written-used {get′ = get′} {a = a} {pieces = pieces} C j m = go (C .written j m)
+  where
+    go : Became get′ a pieces j → inUse (get′ j .kind) ≡ true
+    go (request e k) = ap inUse k
+    go (box k) = ap inUse k
+    go (free k x) = ap inUse k
 
 -- A slot that a step did not write is as it was, but perhaps for its prev.
 same-prev : {m m′ : Seen} → m′ ≡ m → m′ ≡ withPrev m (m′ .prev)

@@ -7,3 +7,5 @@ pub mod CutSteps
 pub mod Carved
 pub mod TableCut
 pub mod Stocked
+pub mod SoundFacts
+pub mod Outcomes
