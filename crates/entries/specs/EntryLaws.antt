@@ -37,9 +37,10 @@ ready-removed w b k l h r =
     (record { entries = entries-removed w (listOf b l) (z .entries) k h; few = z .few; room = rw (length-removed (listOf b l) k) (z .room) }) r
 
 -- and after a push.
-pub ready-entered : (w : List ℕ) (s : Setup) (i : AllocIndex) (r : Rectangle) (l : Lists) → HasSlot w i → ListsReady w l → ListsReady w (entered w s i r l)
-ready-entered w s i r l h z =
+pub ready-entered : (w : List ℕ) (s : Setup) (i : AllocIndex) (r : Rectangle) (l m : Lists) → m ≡ entered w s i r l → HasSlot w i → ListsReady w l → ListsReady w m
+ready-entered w s i r l m e h z =
     let b = bucketOf (s .small) (s .large) (widthOf r) (heightOf r) in
     let p = ready-enterable w (i .0) l z h b in
-    withList-elim (λ _ x. ListReady w x) b (pushed w (i .0) (listOf b l)) l
-    (record { entries = entries-pushed w (i .0) (listOf b l) p; few = p .few; room = rw (length-pushed w (i .0) (listOf b l) p) (p .room) }) z
+    rw e
+    (withList-elim (λ _ x. ListReady w x) b (pushed w (i .0) (listOf b l)) l
+    (record { entries = entries-pushed w (i .0) (listOf b l) p; few = p .few; room = rw (length-pushed w (i .0) (listOf b l) p) (p .room) }) z)
