@@ -6,8 +6,10 @@ use mathlib.Core.List.{List}
 use Prim.Native.Nat.{ℕ, _*_, _≤_, _<_}
 use lib.ListN.{length}
 use Rattle.geometry.specs.Choice.{pick}
+use Rattle.geometry.specs.Cuts.{FitsIn}
 use Rattle.geometry.specs.declared.Bucket.{Bucket}
 use Rattle.geometry.specs.declared.Cut.{Cut}
+use Rattle.geometry.specs.declared.Extent.{Extent}
 use Rattle.geometry.specs.declared.Rectangle.{Rectangle}
 use Rattle.geometry.specs.declared.Setup.{Setup}
 use Rattle.slots.specs.Slots.{nodeAt, HasSlot}
@@ -19,6 +21,7 @@ use Rattle.grants.specs.Shapes.{slotsNeeded}
 use Rattle.grants.specs.declared.Shape.{Shape}
 use Rattle.grants.specs.declared.Shape.the-variants.{Exact, Along, AlongLeft, Across, AcrossLeft}
 use Rattle.carves.specs.Room.{CanTake, LinkHas}
+use Rattle.spares.specs.Chains.{SpareReady}
 
 -- Whether a shape has a split, and whether it has a leftover.
 abbrev pub hasSplit : Shape → Bool
@@ -62,3 +65,12 @@ pub record TakeReady (shape : Shape) (w g : List ℕ) (h : Head) (l : Lists) (i 
   pub place : k < listOf b l .len
   pub split : hasSplit shape ≡ true → Upright (c .split)
   pub left : hasLeft shape ≡ true → Upright (c .leftover)
+
+-- The chosen slot is in the table, the request fits it, and its entry is in a list; the spare chain is in order.
+pub record ChosenReady (w g : List ℕ) (h : Head) (l : Lists) (e : Extent) (i : AllocIndex) (b : Bucket) (k : ℕ) : Type 0 where
+  pub spare : SpareReady w (length g) (h .spare) (h .count)
+  pub chosen : i .0 < length g
+  pub next : LinkHas w (nodeAt w i .next)
+  pub fits : FitsIn (nodeAt w i .rect) (e .width) (e .height)
+  pub lists : ListsReady w l
+  pub place : k < listOf b l .len

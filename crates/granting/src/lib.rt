@@ -14,8 +14,10 @@ ghost use mathlib.Core.Path.{_≡_};
 ghost use Rattle.geometry.specs.Cuts.{noRect};
 ghost use Rattle.lists.specs.FreeLists.{lists};
 ghost use Rattle.steps.specs.State.{state};
-ghost use Rattle.grants.specs.Grants.{noTicket, grant, taken};
-ghost use Rattle.granting.specs.Ready.{hasSplit, hasLeft, piecesOf, PiecesReady, TakeReady};
+ghost use Rattle.sound.specs.Sound.{Sound};
+ghost use Rattle.starts.specs.StartWhen.{LentOf};
+ghost use Rattle.grants.specs.Grants.{noTicket, grant, taken, cutFor, granted};
+ghost use Rattle.granting.specs.Ready.{hasSplit, hasLeft, piecesOf, PiecesReady, TakeReady, ChosenReady};
 
 // A number of the paper's list, the ticket and the rectangle if it is 0, and the head after the call.
 pub struct Allocation {
@@ -166,5 +168,107 @@ fn take_chosen(
         id: id,
         rectangle: rect,
         head: after,
+    }
+}
+
+// Slot i was chosen for a request, and its entry stands at place k of a bucket's list. 7: too few slots are spare for its cut.
+fn cut_for(
+    words: &mut [u32],
+    generations: &mut [u8],
+    small: &mut [u32],
+    medium: &mut [u32],
+    large: &mut [u32],
+    head: Head,
+    lengths: Lengths,
+    setup: Setup,
+    request: Extent,
+    i: AllocIndex,
+    bucket: Bucket,
+    k: usize,
+) -> Allocation
+    requires { ⌜ ChosenReady (now words) (now generations) head (lists lengths (now small) (now medium) (now large)) request i bucket k ⌝ }
+    ensures { λ r. ⌜ grant (r .answer) (r .id) (r .rectangle)
+        (state (r .head) (now (words .exit)) (now (generations .exit)) (now (small .exit)) (now (medium .exit)) (now (large .exit)))
+        ≡ cutFor (state head (now (words .entry)) (now (generations .entry)) (now (small .entry)) (now (medium .entry)) (now (large .entry)))
+        setup (lists lengths (now (small .entry)) (now (medium .entry)) (now (large .entry))) request i bucket k ⌝ }
+{
+    let node = slots::node_at(words, i);
+    let chosen = node.rect;
+    let o = node.orientation;
+    let cut = geometry::guillotine_rect(chosen, request.width, request.height, o);
+    let shape = grants::shape_of(cut, o);
+    let need = grants::slots_needed(shape);
+    let total = generations.len() as u32;
+    let spare = head.spare;
+    if spares::has_spare_slots(words, total, spare, head.count, need) {
+        let rect = Rectangle {
+            x0: chosen.x0,
+            y0: chosen.y0,
+            x1: chosen.x0 + request.width,
+            y1: chosen.y0 + request.height,
+        };
+        return take_chosen(
+            shape,
+            words,
+            generations,
+            small,
+            medium,
+            large,
+            head,
+            lengths,
+            setup,
+            i,
+            bucket,
+            k,
+            rect,
+            cut,
+        );
+    }
+    let mut after = head;
+    after.lengths = lengths;
+    refusal(7, after)
+}
+
+// Allocates a rounded request on sound tables. 6: no Free rectangle is as wide and as tall; 7: too few spare slots.
+pub fn grant_request(
+    words: &mut [u32],
+    generations: &mut [u8],
+    small: &mut [u32],
+    medium: &mut [u32],
+    large: &mut [u32],
+    head: Head,
+    request: Extent,
+) -> Allocation
+    requires { ⌜ LentOf (state head (now words) (now generations) (now small) (now medium) (now large))
+        × Sound (state head (now words) (now generations) (now small) (now medium) (now large)) ⌝ }
+    ensures { λ r. ⌜ grant (r .answer) (r .id) (r .rectangle)
+        (state (r .head) (now (words .exit)) (now (generations .exit)) (now (small .exit)) (now (medium .exit)) (now (large .exit)))
+        ≡ granted (state head (now (words .entry)) (now (generations .entry)) (now (small .entry)) (now (medium .entry)) (now (large .entry))) request ⌝ }
+{
+    let setup = geometry::setup_of(head.sheet, head.options);
+    let lengths = head.lengths;
+    let found = search::find_suitable_rect(words, small, medium, large, lengths, setup, request);
+    let left = found.lengths;
+    let chosen = found.chosen;
+    match chosen {
+        Chosen::At(i, bucket, k) => cut_for(
+            words,
+            generations,
+            small,
+            medium,
+            large,
+            head,
+            left,
+            setup,
+            request,
+            i,
+            bucket,
+            k,
+        ),
+        Chosen::Nothing => {
+            let mut after = head;
+            after.lengths = left;
+            refusal(6, after)
+        }
     }
 }
