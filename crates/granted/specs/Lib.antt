@@ -9,3 +9,4 @@ pub mod TableCut
 pub mod Stocked
 pub mod SoundFacts
 pub mod Outcomes
+pub mod Given
