@@ -15,7 +15,7 @@ use Rattle.geometry.specs.declared.Bucket.{Bucket}
 use Rattle.geometry.specs.declared.Cut.{Cut}
 use Rattle.geometry.specs.declared.Extent.{Extent}
 use Rattle.geometry.specs.declared.Rectangle.{Rectangle}
-use Rattle.slots.specs.Slots.{nodeAt}
+use Rattle.slots.specs.Slots.{slot, nodeAt}
 use Rattle.slots.specs.Tickets.{ticketOf}
 use Rattle.slots.specs.declared.AllocIndex.{AllocIndex}
 use Rattle.lists.specs.FreeLists.{Lists, removedFrom}
@@ -53,7 +53,7 @@ pub record Given (s : State) (i a : ℕ) (new : List ℕ) (pieces : List Piece) 
   pub taken : Taken (seen (s .words)) (s .head .count) (g .after .head .count) new
   pub carving : Carving (seen (s .words)) (seen (g .after .words)) (s .head .count) (g .after .head .count) (s .head .root .0) i a new pieces (g .rect)
   pub others : (j : ℕ) → (In j new → ⊥) → getD (g .after .generations) j 0 ≡ getD (s .generations) j 0
-  pub ticket : g .ticket .0 ≡ a + getD (g .after .generations) a 0 * 16777216
+  pub ticket : g .ticket ≡ ticketOf (slot a) (getD (g .after .generations) a 0)
 
 -- The pieces of a shape are among its new slots.
 pieces-below : (m : ℕ) (shape : Shape) (n : News) (c : Cut) → ((j : ℕ) → In j (newOnes shape n) → j < m) → AllOf (λ x. x < m) (slotsOf (piecesOf shape n c))

@@ -10,3 +10,5 @@ pub mod Stocked
 pub mod SoundFacts
 pub mod Outcomes
 pub mod Given
+pub mod Terms
+pub mod TicketLaws
