@@ -12,3 +12,5 @@ pub mod Outcomes
 pub mod Given
 pub mod Terms
 pub mod TicketLaws
+pub mod Cases
+pub mod Promises
