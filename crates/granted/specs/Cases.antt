@@ -74,7 +74,7 @@ module _ (s : State) (e : Extent) (L : LentOf s) (S : Sound s) where
   refused-sound r = refusal-sound S searched-stocked
 
   pub refused-lent : (r : ℕ) → LentOf (refusedWith r s e .after)
-  refused-lent r = outcome-lent s (s .head) (s .words) (s .generations) (searchOf s e .lists) L refl refl (searched-stocked .tables)
+  refused-lent r = outcome-lent s (s .head) (s .words) (s .generations) (searchOf s e .lists) L refl refl (searched-stocked .filed .tables)
 
   pub refused-refuses : (r : ℕ) → Refuses s e (refusedWith r s e)
   refused-refuses r = record {

@@ -83,7 +83,7 @@ module _ (s : State) (L : LentOf s) (S : Sound s) (e : Extent) (l : Lists)
       record {
         answer = refl;
         sound = cut-sound w S T (p .live) C K′;
-        lent = outcome-lent s (n .head) w (n .generations) _ L words (T .bytes) (K′ .tables);
+        lent = outcome-lent s (n .head) w (n .generations) _ L words (T .bytes) (K′ .filed .tables);
         taken = T .taken;
         carving = C;
         others = T .others;

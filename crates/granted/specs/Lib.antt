@@ -6,6 +6,7 @@ pub mod Members
 pub mod CutSteps
 pub mod Carved
 pub mod TableCut
+pub mod Filed
 pub mod Stocked
 pub mod SoundFacts
 pub mod Outcomes

@@ -37,9 +37,9 @@ refusal-sound {s} S K = record {
     some = S .rule1 .some;
     fits = S .rule1 .fits;
     valid = S .rule1 .valid;
-    within = K .within;
+    within = K .filed .within;
     root = S .rule1 .root;
-    entries = K .entries;
+    entries = K .filed .entries;
   };
   rule2 = S .rule2;
   rule3 = S .rule3;
@@ -73,9 +73,9 @@ module _ {s : State} (w′ : List ℕ) {g′ new : List ℕ} {h′ : Head} {i a 
           some = omega (arith, S .rule1 .some, T .taken .grow);
           fits = rw (T .bytes) (T .fits);
           valid = rw (sheet, options) (S .rule1 .valid);
-          within = K .within;
+          within = K .filed .within;
           root = rw root (omega (arith, S .rule1 .root, T .taken .grow));
-          entries = K .entries;
+          entries = K .filed .entries;
         };
         rule2 = chain-after;
         rule3 = rw root (C .kept .links);
