@@ -1,16 +1,11 @@
 -- What an allocate leaves, case by case: nothing chosen, too few spare slots, or the cut carried out.
 -- Assumes nothing.
-use Prim.Native.Nat.{ℕ, _+_, _*_, _≤_, _<_}
-use mathlib.Core.Path.{_≡_, refl, sym, _∙_, ap}
-use mathlib.Core.Bool.{Bool, true, false}
+use Prim.Native.Nat.{ℕ, _*_, _≤_, _<_}
+use mathlib.Core.Path.{_≡_, refl, ap}
 use mathlib.Core.Logic.{inl, inr}
-use mathlib.Core.List.{List, [], _∷_}
+use mathlib.Core.List.{List, []}
 use native.Mathlib.Omega.{arith}
-use lib.Dec.{leb}
 use lib.ListN.{length, getD}
-use borrow.Author.Tests.{leb-true, leb-false}
-use Rattle.geometry.specs.Choice.{pick-elim}
-use Rattle.geometry.specs.Cuts.{atCorner, cutOf}
 use Rattle.geometry.specs.declared.Bucket.{Bucket}
 use Rattle.geometry.specs.declared.Cut.{Cut}
 use Rattle.geometry.specs.declared.Extent.{Extent}
@@ -18,27 +13,24 @@ use Rattle.geometry.specs.declared.Rectangle.{Rectangle}
 use Rattle.slots.specs.Slots.{slot, nodeAt}
 use Rattle.slots.specs.Tickets.{ticketOf}
 use Rattle.slots.specs.declared.AllocIndex.{AllocIndex}
-use Rattle.lists.specs.FreeLists.{Lists, removedFrom}
-use Rattle.search.specs.Search.{Searched, findSuitable}
-use Rattle.search.specs.declared.Chosen.{Chosen}
-use Rattle.search.specs.declared.Chosen.the-variants.{At, Nothing}
+use Rattle.lists.specs.FreeLists.{Lists}
 use Rattle.steps.specs.Spares.{spareSlots}
 use Rattle.steps.specs.State.{State, listsOf}
+use Rattle.steps.specs.declared.Head.{Head}
 use Rattle.sound.specs.View.{seen}
 use Rattle.sound.specs.Rules.{NotEmpty}
-use Rattle.sound.specs.Sound.{Sound, sheetOf}
+use Rattle.sound.specs.Sound.{Sound}
 use Rattle.forest.specs.Pigeon.{In}
 use Rattle.changes.specs.Swaps.{Taken}
 use Rattle.starts.specs.StartWhen.{LentOf}
 use Rattle.grants.specs.Carves.{News, newsOf, carved}
-use Rattle.grants.specs.Grants.{Grant, refused, withLists, piecesEntered, taken, cutFor, grantOf, granted}
-use Rattle.grants.specs.Shapes.{shapeOf, slotsNeeded}
+use Rattle.grants.specs.Grants.{Grant, taken}
+use Rattle.grants.specs.Shapes.{slotsNeeded}
 use Rattle.grants.specs.declared.Shape.{Shape}
 use Rattle.grants.specs.declared.Shape.the-variants.{Exact, Along, AlongLeft, Across, AcrossLeft}
 use Rattle.granted.specs.Members.{AllOf}
-use Rattle.granted.specs.NewSlots.{Taking}
 use Rattle.granted.specs.News.{newOnes, sound-taking, news-taken}
-use Rattle.granted.specs.CutShapes.{CutsAs, cut-shape}
+use Rattle.granted.specs.CutShapes.{CutsAs}
 use Rattle.granted.specs.Carved.{Piece, slotsOf, Carving}
 use Rattle.granted.specs.TableCut.{piecesOf, length-carved, table-carved}
 use Rattle.granted.specs.SoundFacts.{setupAt, Picked, lent-few, lent-slots, lent-room}
@@ -53,6 +45,7 @@ pub record Given (s : State) (i a : ℕ) (new : List ℕ) (pieces : List Piece) 
   pub taken : Taken (seen (s .words)) (s .head .count) (g .after .head .count) new
   pub carving : Carving (seen (s .words)) (seen (g .after .words)) (s .head .count) (g .after .head .count) (s .head .root .0) i a new pieces (g .rect)
   pub others : (j : ℕ) → (In j new → ⊥) → getD (g .after .generations) j 0 ≡ getD (s .generations) j 0
+  pub same : (g .after .head .sheet ≡ s .head .sheet) × (g .after .head .options ≡ s .head .options) × (g .after .head .root ≡ s .head .root)
   pub ticket : g .ticket ≡ ticketOf (slot a) (getD (g .after .generations) a 0)
 
 -- The pieces of a shape are among its new slots.
@@ -87,5 +80,6 @@ module _ (s : State) (L : LentOf s) (S : Sound s) (e : Extent) (l : Lists)
         taken = T .taken;
         carving = C;
         others = T .others;
+        same = (ap (λ (z : Head). z .sheet) (T .head), ap (λ (z : Head). z .options) (T .head), ap (λ (z : Head). z .root) (T .head));
         ticket = refl;
       }

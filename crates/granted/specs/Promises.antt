@@ -1,25 +1,24 @@
 -- THE PROMISES of allocate, for a rounded request with sides above 0 on sound tables whose lengths are in range.
 -- Assumes nothing but that.
 use Prim.Native.Nat.{ℕ, _≤_, _<_}
-use mathlib.Core.Path.{_≡_, refl, sym, _∙_}
+use mathlib.Core.Path.{_≡_, refl}
 use mathlib.Core.Logic.{_↔_}
 use native.Mathlib.Omega.{arith}
 use Rattle.geometry.specs.declared.Bucket.{Bucket}
 use Rattle.geometry.specs.declared.Extent.{Extent}
 use Rattle.slots.specs.declared.AllocIndex.{AllocIndex}
 use Rattle.search.specs.FindLaws.{search-nothing-means-none, search-none-means-nothing}
-use Rattle.search.specs.Search.{findSuitable}
 use Rattle.search.specs.declared.Chosen.{Chosen}
 use Rattle.search.specs.declared.Chosen.the-variants.{At, Nothing}
 use Rattle.steps.specs.State.{State, listsOf}
 use Rattle.sound.specs.View.{seen}
 use Rattle.sound.specs.Sound.{Sound}
 use Rattle.starts.specs.StartWhen.{LentOf}
-use Rattle.grants.specs.Grants.{Grant, taken, granted}
+use Rattle.grants.specs.Grants.{taken, granted}
 use Rattle.granted.specs.SoundFacts.{setupAt, sound-searchable}
 use Rattle.granted.specs.Stocked.{sound-stocked}
-use Rattle.granted.specs.Terms.{Roomy, ChoosesAt, Chooses, neededAt, spareAt, Refuses, GivesOut}
-use Rattle.granted.specs.Cases.{searchOf, refusedWith, cutFrom, grant-cases, chosen-picked, refused-sound, refused-lent, refused-refuses, cut-leaves, cut-gives-out}
+use Rattle.granted.specs.Terms.{Roomy, Chooses, neededAt, spareAt, Refuses, GivesOut}
+use Rattle.granted.specs.Cases.{searchOf, grant-cases, chosen-picked, refused-sound, refused-lent, refused-refuses, cut-leaves, cut-gives-out}
 
 -- A search that chose one slot chose no other, and did not choose nothing.
 one-chosen : {c : Chosen} {i j : AllocIndex} {a b : Bucket} {k m : ℕ} → c ≡ At i a k → c ≡ At j b m → i ≡ j

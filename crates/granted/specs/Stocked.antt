@@ -1,7 +1,7 @@
 -- The free lists through an allocate, as rules 1 and 6 speak of them, but for the slots that are still to be pushed.
 -- Assumes nothing.
-use Prim.Native.Nat.{ℕ, _+_, _*_, _≤_, _<_}
-use mathlib.Core.Path.{_≡_, refl, sym, subst, _∙_, ap}
+use Prim.Native.Nat.{ℕ, _*_, _≤_, _<_}
+use mathlib.Core.Path.{_≡_, sym, _∙_, ap}
 use mathlib.Core.Bool.{true}
 use mathlib.Core.Logic.{inl, inr, ⊎-elim}
 use mathlib.Core.List.{List, [], _∷_}
@@ -14,19 +14,17 @@ use Rattle.geometry.specs.declared.Bucket.{Bucket}
 use Rattle.geometry.specs.declared.Extent.{Extent}
 use Rattle.geometry.specs.declared.Rectangle.{Rectangle}
 use Rattle.geometry.specs.declared.Setup.{Setup}
-use Rattle.slots.specs.Slots.{slot, nodeAt}
-use Rattle.slots.specs.declared.NodeKind.the-variants.{Container, Alloc, Free}
+use Rattle.slots.specs.Slots.{slot}
+use Rattle.slots.specs.declared.NodeKind.the-variants.{Free}
 use Rattle.lists.specs.Counts.{occurrences}
-use Rattle.lists.specs.FreeLists.{Lists, listOf, withList, Within, removedFrom}
-use Rattle.lists.specs.FreeListLaws.{listOf-withList-same, withList-elim, pushedTo-within, removedFrom-within}
-use Rattle.lists.specs.ListLaws.{length-removed, each-removed}
-use Rattle.lists.specs.Lists.{Bag, removed, pushed, freeEntry, Each, Pushable}
+use Rattle.lists.specs.FreeLists.{Lists, listOf, withList, removedFrom}
+use Rattle.lists.specs.FreeListLaws.{listOf-withList-same, withList-elim}
+use Rattle.lists.specs.Lists.{Bag, removed, pushed, freeEntry, Pushable}
 use Rattle.lists.specs.OccurrenceLaws.{removed-others, place-occurs, occurs-at, push-enters, push-keeps-free}
-use Rattle.lists.specs.PushLaws.{length-pushed, each-pushed}
-use Rattle.search.specs.FindLaws.{idealOf, search-keeps-searchable, search-within, search-keeps-free, search-each}
+use Rattle.search.specs.FindLaws.{idealOf, search-keeps-free}
 use Rattle.search.specs.Search.{Searched, findSuitable, Searchable}
 use Rattle.steps.specs.State.{State, listsOf}
-use Rattle.sound.specs.View.{Seen, seen, seenAs}
+use Rattle.sound.specs.View.{seen}
 use Rattle.sound.specs.Sound.{Sound, HasEntry}
 use Rattle.forest.specs.Pigeon.{In, In-dec}
 use Rattle.changes.specs.Swaps.{Taken}
@@ -37,7 +35,7 @@ use Rattle.grants.specs.declared.Shape.the-variants.{Exact, Along, AlongLeft, A
 use Rattle.geometry.specs.declared.Cut.{Cut}
 use Rattle.granted.specs.Members.{AllOf}
 use Rattle.granted.specs.Filed.{Filed, sound-filed, filed-more, search-filed, removed-filed, filed-pushable, pushed-filed}
-use Rattle.granted.specs.Carved.{Piece, piece, slotsOf, Hold, Became, request, box, free, Carving}
+use Rattle.granted.specs.Carved.{Piece, slotsOf, Hold, Became, request, box, free, Carving}
 use Rattle.granted.specs.TableCut.{piecesOf}
 
 -- The bucket of slot x's rectangle.

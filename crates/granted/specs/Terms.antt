@@ -23,7 +23,7 @@ use Rattle.search.specs.declared.Chosen.the-variants.{At}
 use Rattle.steps.specs.Spares.{spareSlots}
 use Rattle.steps.specs.State.{State, listsOf}
 use Rattle.steps.specs.declared.Head.{Head}
-use Rattle.sound.specs.View.{seen}
+use Rattle.sound.specs.View.{seen, Live}
 use Rattle.cover.specs.Sums.{rectAt, InRect}
 use Rattle.grants.specs.Grants.{Grant, noTicket}
 use Rattle.grants.specs.Shapes.{shapeOf, slotsNeeded}
@@ -91,3 +91,6 @@ pub record GivesOut (s : State) (e : Extent) (g : Grant) : Type 0 where
   -- Every other live ticket stays live with its rectangle, and no other becomes live.
   pub others : (t : AllocId) → LiveTicket s t → LiveTicket (g .after) t × (rectAt (g .after) (slotOf t .0) ≡ rectAt s (slotOf t .0))
   pub only : (t : AllocId) → LiveTicket (g .after) t → (t ≡ g .ticket) ⊎ LiveTicket s t
+  -- No live slot's generation changes, and the head keeps sheet, options and root.
+  pub generations : (j : ℕ) → Live (seen (s .words)) (s .head .count) j → getD (g .after .generations) j 0 ≡ getD (s .generations) j 0
+  pub same : (g .after .head .sheet ≡ s .head .sheet) × (g .after .head .options ≡ s .head .options) × (g .after .head .root ≡ s .head .root)

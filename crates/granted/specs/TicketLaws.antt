@@ -1,37 +1,34 @@
 -- What a cut that is carried out does to the tickets: one is given out, and every other is live or not as it was.
 -- Assumes nothing.
-use Prim.Native.Nat.{ℕ, _+_, _*_, _≤_, _<_}
-use mathlib.Core.Path.{_≡_, refl, sym, subst, _∙_, ap}
-use mathlib.Core.Bool.{true}
+use Prim.Native.Nat.{ℕ, _<_}
+use mathlib.Core.Path.{_≡_, sym, _∙_, ap}
 use mathlib.Core.Logic.{_⊎_, inl, inr, ⊎-elim}
-use mathlib.Core.List.{List, [], _∷_}
+use mathlib.Core.List.{List, _∷_}
 use native.Mathlib.Omega.{arith}
-use lib.ListN.{length, getD}
-use Rattle.geometry.specs.Cuts.{FitsIn, atCorner, widthOf, heightOf}
+use lib.ListN.{getD}
+use Rattle.geometry.specs.Cuts.{atCorner}
 use Rattle.geometry.specs.PieceLaws.{Inside}
 use Rattle.geometry.specs.declared.Bucket.{Bucket}
 use Rattle.geometry.specs.declared.Extent.{Extent}
-use Rattle.geometry.specs.declared.Rectangle.{Rectangle}
 use Rattle.slots.specs.Slots.{slot, nodeAt}
 use Rattle.slots.specs.TicketLaws.{ticket-together, ticket-slot, ticket-generation}
-use Rattle.slots.specs.Tickets.{ticketOf, slotOf, generationOf}
+use Rattle.slots.specs.Tickets.{slotOf, generationOf}
 use Rattle.slots.specs.declared.AllocId.{AllocId}
 use Rattle.slots.specs.declared.AllocIndex.{AllocIndex}
 use Rattle.slots.specs.declared.NodeKind.{NodeKind}
 use Rattle.slots.specs.declared.NodeKind.the-variants.{Container, Alloc, Free}
 use Rattle.lists.specs.FreeLists.{Lists}
-use Rattle.search.specs.Suits.{Suits}
 use Rattle.steps.specs.State.{State}
-use Rattle.sound.specs.View.{Seen, seen, inUse, Live}
+use Rattle.sound.specs.View.{Seen, seen, inUse}
 use Rattle.sound.specs.Sound.{Sound}
 use Rattle.forest.specs.Pigeon.{In, In-dec}
 use Rattle.cover.specs.Covered.{leaves-apart}
-use Rattle.cover.specs.Sums.{LeafAt, rectAt, InRect}
+use Rattle.cover.specs.Sums.{rectAt, InRect}
 use Rattle.grants.specs.Grants.{Grant}
 use Rattle.granted.specs.Carved.{Piece, Became, request, box, free}
 use Rattle.granted.specs.SoundFacts.{Picked}
 use Rattle.granted.specs.Given.{Given}
-use Rattle.granted.specs.Terms.{Roomy, LiveTicket, GivesOut}
+use Rattle.granted.specs.Terms.{LiveTicket, GivesOut}
 
 -- An Alloc slot is no Container and not Free.
 not-box : {k : NodeKind} → k ≡ Alloc → k ≡ Container → ⊥
@@ -133,4 +130,6 @@ module _ (s : State) (S : Sound s) (e : Extent) (l : Lists) (i : AllocIndex) (b 
     apart = apart;
     others = stays;
     only = only;
+    generations = λ j v. G .others j (λ m. G .taken .idle j m v);
+    same = G .same;
   }
