@@ -1,6 +1,6 @@
 -- THE PROMISES of allocate, for a rounded request with sides above 0 on sound tables whose lengths are in range.
 -- Assumes nothing but that.
-use Prim.Native.Nat.{ℕ, _≤_, _<_}
+use Prim.Native.Nat.{ℕ, _<_}
 use mathlib.Core.Path.{_≡_, refl}
 use mathlib.Core.Logic.{_↔_}
 use native.Mathlib.Omega.{arith}
@@ -17,7 +17,7 @@ use Rattle.starts.specs.StartWhen.{LentOf}
 use Rattle.grants.specs.Grants.{taken, granted}
 use Rattle.granted.specs.SoundFacts.{setupAt, sound-searchable}
 use Rattle.granted.specs.Stocked.{sound-stocked}
-use Rattle.granted.specs.Terms.{Roomy, Chooses, neededAt, spareAt, Refuses, GivesOut}
+use Rattle.granted.specs.Terms.{Roomy, Chooses, TooFew, Enough, Refuses, GivesOut}
 use Rattle.granted.specs.Cases.{searchOf, grant-cases, chosen-picked, refused-sound, refused-lent, refused-refuses, cut-leaves, cut-gives-out}
 
 -- A search that chose one slot chose no other, and did not choose nothing.
@@ -68,22 +68,22 @@ module _ (s : State) (e : Extent) (L : LentOf s) (S : Sound s) (w : 0 < e .width
       (λ i b k c n. (λ q. absurd (omega arith), λ r. absurd (not-nothing c (nothing-when .1 r))))
 
   -- 7: a slot is chosen, and fewer slots are spare than its cut needs.
-  pub grant-gives-7 : (granted s e .answer ≡ 7) ↔ ((i : AllocIndex) × Chooses s e i × (spareAt s < neededAt s e i))
+  pub grant-gives-7 : (granted s e .answer ≡ 7) ↔ ((i : AllocIndex) × Chooses s e i × TooFew s e i)
   unfolding taken
   grant-gives-7 =
-      grant-cases s e (λ g. (g .answer ≡ 7) ↔ ((i : AllocIndex) × Chooses s e i × (spareAt s < neededAt s e i)))
+      grant-cases s e (λ g. (g .answer ≡ 7) ↔ ((i : AllocIndex) × Chooses s e i × TooFew s e i))
       (λ c. (λ q. absurd (omega arith), λ r. absurd (not-nothing (r .1 .2) c)))
-      (λ i b k c n. (λ _. (i, (b, k, c), n), λ _. refl))
+      (λ i b k c n. (λ _. (i, (b, k, c), omega arith), λ _. refl))
       (λ i b k c n. (λ q. absurd (omega arith), λ r. absurd (let z = rw (one-chosen (r .1 .2) c) at (r .2) in omega arith)))
 
   -- 0: a slot is chosen, and enough are spare.
-  pub grant-gives-0 : (granted s e .answer ≡ 0) ↔ ((i : AllocIndex) × Chooses s e i × (neededAt s e i ≤ spareAt s))
+  pub grant-gives-0 : (granted s e .answer ≡ 0) ↔ ((i : AllocIndex) × Chooses s e i × Enough s e i)
   unfolding taken
   grant-gives-0 =
-      grant-cases s e (λ g. (g .answer ≡ 0) ↔ ((i : AllocIndex) × Chooses s e i × (neededAt s e i ≤ spareAt s)))
+      grant-cases s e (λ g. (g .answer ≡ 0) ↔ ((i : AllocIndex) × Chooses s e i × Enough s e i))
       (λ c. (λ q. absurd (omega arith), λ r. absurd (not-nothing (r .1 .2) c)))
       (λ i b k c n. (λ q. absurd (omega arith), λ r. absurd (let z = rw (one-chosen (r .1 .2) c) at (r .2) in omega arith)))
-      (λ i b k c n. (λ _. (i, (b, k, c), n), λ _. refl))
+      (λ i b k c n. (λ _. (i, (b, k, c), omega arith), λ _. refl))
 
   -- 6 and 7 leave the lists as the search left them, with the chosen entry still in, and change nothing else.
   pub refusal-changes-lists-alone : (granted s e .answer ≡ 0 → ⊥) → Refuses s e (granted s e)

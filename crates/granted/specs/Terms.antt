@@ -1,6 +1,6 @@
 -- The words in which the promises of allocate are said.
 -- Assumes nothing.
-use Prim.Native.Nat.{ℕ, _<_}
+use Prim.Native.Nat.{ℕ, _≤_, _<_}
 use mathlib.Core.Path.{_≡_}
 use mathlib.Core.Logic.{_⊎_}
 use lib.ListN.{length, getD}
@@ -53,6 +53,13 @@ neededAt s e i = slotsNeeded (shapeAt s e i)
 
 abbrev pub spareAt : State → ℕ
 spareAt s = spareSlots (s .words) (length (s .generations)) (s .head .count)
+
+-- Fewer slots are spare than the cut of slot i needs, or enough.
+abbrev pub TooFew : State → Extent → AllocIndex → Type 0
+TooFew s e i = spareAt s < neededAt s e i
+
+abbrev pub Enough : State → Extent → AllocIndex → Type 0
+Enough s e i = neededAt s e i ≤ spareAt s
 
 -- A live ticket is one naming an Alloc slot with its present generation.
 pub record LiveTicket (s : State) (t : AllocId) : Type 0 where
