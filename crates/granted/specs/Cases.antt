@@ -2,6 +2,7 @@
 -- Assumes nothing.
 use Prim.Native.Nat.{ℕ, _≤_, _<_}
 use mathlib.Core.Path.{_≡_, refl}
+use mathlib.Core.Logic.{_↔_}
 use mathlib.Core.List.{[]}
 use native.Mathlib.Omega.{arith}
 use lib.Dec.{leb}
@@ -13,11 +14,12 @@ use Rattle.geometry.specs.declared.Extent.{Extent}
 use Rattle.geometry.specs.declared.Rectangle.{Rectangle}
 use Rattle.slots.specs.Slots.{nodeAt}
 use Rattle.slots.specs.declared.AllocIndex.{AllocIndex}
-use Rattle.search.specs.FindLaws.{search-thins}
+use Rattle.search.specs.FindLaws.{search-thins, search-nothing-means-none, search-none-means-nothing}
 use Rattle.search.specs.Search.{Searched, findSuitable}
 use Rattle.search.specs.declared.Chosen.{Chosen}
 use Rattle.search.specs.declared.Chosen.the-variants.{At, Nothing}
 use Rattle.steps.specs.State.{State, listsOf}
+use Rattle.sound.specs.View.{seen}
 use Rattle.sound.specs.Sound.{Sound}
 use Rattle.starts.specs.StartWhen.{LentOf}
 use Rattle.grants.specs.Carves.{newsOf}
@@ -29,7 +31,7 @@ use Rattle.granted.specs.SoundFacts.{setupAt, Picked, sound-searchable, 
 use Rattle.granted.specs.Stocked.{Stocked, sound-stocked, search-stocks}
 use Rattle.granted.specs.Outcomes.{outcome-lent, refusal-sound}
 use Rattle.granted.specs.Given.{Given, cut-given}
-use Rattle.granted.specs.Terms.{ChoosesAt, cutAt, shapeAt, neededAt, spareAt, Refuses, GivesOut}
+use Rattle.granted.specs.Terms.{Roomy, ChoosesAt, cutAt, shapeAt, neededAt, spareAt, Refuses, GivesOut}
 use Rattle.granted.specs.TicketLaws.{gives-out}
 
 -- What the search answers, and the lists as it left them.
@@ -46,6 +48,13 @@ refusedWith r s e = refused r (withLists (s .head) (s .words) (s .generations) (
 
 abbrev pub cutFrom : State → Extent → AllocIndex → Bucket → ℕ → Grant
 cutFrom s e i b k = taken (shapeAt s e i) s (setupAt s) (searchOf s e .lists) i b k (cornerAt s e i) (cutAt s e i)
+
+-- A search that chose one slot chose no other, and did not choose nothing.
+pub one-chosen : {c : Chosen} {i j : AllocIndex} {a b : Bucket} {k m : ℕ} → c ≡ At i a k → c ≡ At j b m → i ≡ j
+one-chosen p q = cc
+
+pub not-nothing : {c : Chosen} {i : AllocIndex} {b : Bucket} {k : ℕ} → c ≡ At i b k → c ≡ Nothing → ⊥
+not-nothing p q = let z : _≡_ {A = ℕ} 0 1 = cc in omega arith
 
 -- 6 where nothing is chosen, 7 where fewer slots are spare than the cut needs, else the cut.
 pub grant-cases : (s : State) (e : Extent) (P : Grant → Type 0)
@@ -68,6 +77,16 @@ module _ (s : State) (e : Extent) (L : LentOf s) (S : Sound s) where
 
   pub chosen-picked : (i : AllocIndex) (b : Bucket) (k : ℕ) → ChoosesAt s e i b k → Picked s e (searchOf s e .lists) i b k
   chosen-picked = search-picks s L S e (searchOf s e) refl
+
+  -- Nothing is chosen exactly where no Free rectangle is as wide and as tall as the request.
+  pub nothing-when : (searchOf s e .chosen ≡ Nothing) ↔ ((x : ℕ) → Roomy s e x → ⊥)
+  unfolding seen
+  nothing-when = (
+    λ c x r. search-nothing-means-none (s .words) (setupAt s) e (listsOf s) (searchOf s e) refl (sound-searchable s L S) (s .head .count)
+        (λ y l f. sound-stocked S .listed y l f (λ m. m)) c x (r .0) (r .1),
+    λ n. search-none-means-nothing (s .words) (setupAt s) e (listsOf s) (searchOf s e) refl (sound-searchable s L S) (s .head .count)
+        (S .rule1 .entries) (λ x l r. n x (l, r)),
+  )
 
   -- A refusal leaves sound tables, and all but the lists as it was.
   pub refused-sound : (r : ℕ) → Sound (refusedWith r s e .after)

@@ -4,28 +4,16 @@ use Prim.Native.Nat.{ℕ, _<_}
 use mathlib.Core.Path.{_≡_, refl}
 use mathlib.Core.Logic.{_↔_}
 use native.Mathlib.Omega.{arith}
-use Rattle.geometry.specs.declared.Bucket.{Bucket}
 use Rattle.geometry.specs.declared.Extent.{Extent}
 use Rattle.slots.specs.declared.AllocIndex.{AllocIndex}
-use Rattle.search.specs.FindLaws.{search-nothing-means-none, search-none-means-nothing}
 use Rattle.search.specs.declared.Chosen.{Chosen}
 use Rattle.search.specs.declared.Chosen.the-variants.{At, Nothing}
-use Rattle.steps.specs.State.{State, listsOf}
-use Rattle.sound.specs.View.{seen}
+use Rattle.steps.specs.State.{State}
 use Rattle.sound.specs.Sound.{Sound}
 use Rattle.starts.specs.StartWhen.{LentOf}
 use Rattle.grants.specs.Grants.{taken, granted}
-use Rattle.granted.specs.SoundFacts.{setupAt, sound-searchable}
-use Rattle.granted.specs.Stocked.{sound-stocked}
 use Rattle.granted.specs.Terms.{Roomy, Chooses, TooFew, Enough, Refuses, GivesOut}
-use Rattle.granted.specs.Cases.{searchOf, grant-cases, chosen-picked, refused-sound, refused-lent, refused-refuses, cut-leaves, cut-gives-out}
-
--- A search that chose one slot chose no other, and did not choose nothing.
-one-chosen : {c : Chosen} {i j : AllocIndex} {a b : Bucket} {k m : ℕ} → c ≡ At i a k → c ≡ At j b m → i ≡ j
-one-chosen p q = cc
-
-not-nothing : {c : Chosen} {i : AllocIndex} {b : Bucket} {k : ℕ} → c ≡ At i b k → c ≡ Nothing → ⊥
-not-nothing p q = let z : _≡_ {A = ℕ} 0 1 = cc in omega arith
+use Rattle.granted.specs.Cases.{searchOf, one-chosen, not-nothing, grant-cases, chosen-picked, nothing-when, refused-sound, refused-lent, refused-refuses, cut-leaves, cut-gives-out}
 
 module _ (s : State) (e : Extent) (L : LentOf s) (S : Sound s) (w : 0 < e .width) (h : 0 < e .height) where
   -- SOUND. Whatever the answer, the tables are sound after it, and their lengths in range.
@@ -43,31 +31,22 @@ module _ (s : State) (e : Extent) (L : LentOf s) (S : Sound s) (w : 0 < e .width
       let f = p .fits in
       (p .live .0, record { free = p .free; wide = omega arith; tall = omega arith })
 
-  nothing-when : (searchOf s e .chosen ≡ Nothing) ↔ ((x : ℕ) → Roomy s e x → ⊥)
-  unfolding seen
-  nothing-when = (
-    λ c x r. search-nothing-means-none (s .words) (setupAt s) e (listsOf s) (searchOf s e) refl (sound-searchable s L S) (s .head .count)
-        (λ y l f. sound-stocked S .listed y l f (λ m. m)) c x (r .0) (r .1),
-    λ n. search-none-means-nothing (s .words) (setupAt s) e (listsOf s) (searchOf s e) refl (sound-searchable s L S) (s .head .count)
-        (S .rule1 .entries) (λ x l r. n x (l, r)),
-  )
-
   pub roomy-is-chosen : (x : ℕ) → Roomy s e x → (i : AllocIndex) × Chooses s e i
   roomy-is-chosen x r = go (searchOf s e .chosen) refl
     where
       go : (c : Chosen) → searchOf s e .chosen ≡ c → (i : AllocIndex) × Chooses s e i
-      go Nothing q = absurd (nothing-when .0 q x r)
+      go Nothing q = absurd (nothing-when s e L S .0 q x r)
       go (At i b k) q = (i, (b, k, q))
 
   -- 6: no Free rectangle is as wide and as tall as the request.
   pub grant-gives-6 : (granted s e .answer ≡ 6) ↔ ((x : ℕ) → Roomy s e x → ⊥)
   unfolding taken
   grant-gives-6 =
-      grant-cases s e (λ g. (g .answer ≡ 6) ↔ ((x : ℕ) → Roomy s e x → ⊥)) (λ c. (λ _. nothing-when .0 c, λ _. refl))
-      (λ i b k c n. (λ q. absurd (omega arith), λ r. absurd (not-nothing c (nothing-when .1 r))))
-      (λ i b k c n. (λ q. absurd (omega arith), λ r. absurd (not-nothing c (nothing-when .1 r))))
+      grant-cases s e (λ g. (g .answer ≡ 6) ↔ ((x : ℕ) → Roomy s e x → ⊥)) (λ c. (λ _. nothing-when s e L S .0 c, λ _. refl))
+      (λ i b k c n. (λ q. absurd (omega arith), λ r. absurd (not-nothing c (nothing-when s e L S .1 r))))
+      (λ i b k c n. (λ q. absurd (omega arith), λ r. absurd (not-nothing c (nothing-when s e L S .1 r))))
 
-  -- 7: a slot is chosen, and fewer slots are spare than its cut needs.
+  -- 7: some Free rectangle is, and fewer slots are spare than the cut of the chosen one needs.
   pub grant-gives-7 : (granted s e .answer ≡ 7) ↔ ((i : AllocIndex) × Chooses s e i × TooFew s e i)
   unfolding taken
   grant-gives-7 =
@@ -76,7 +55,7 @@ module _ (s : State) (e : Extent) (L : LentOf s) (S : Sound s) (w : 0 < e .width
       (λ i b k c n. (λ _. (i, (b, k, c), omega arith), λ _. refl))
       (λ i b k c n. (λ q. absurd (omega arith), λ r. absurd (let z = rw (one-chosen (r .1 .2) c) at (r .2) in omega arith)))
 
-  -- 0: a slot is chosen, and enough are spare.
+  -- 0: some Free rectangle is, and enough slots are spare.
   pub grant-gives-0 : (granted s e .answer ≡ 0) ↔ ((i : AllocIndex) × Chooses s e i × Enough s e i)
   unfolding taken
   grant-gives-0 =
