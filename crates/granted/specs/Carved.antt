@@ -1,7 +1,7 @@
 -- The cut of a Free slot, whatever its shape: rules 3, 4, 5 and 7 are kept, and every slot written is the request's, a Container
 -- or a Free piece.
 -- Assumes nothing.
-use Prim.Native.Nat.{ℕ, _≤_, _<_}
+use Prim.Native.Nat.{ℕ}
 use mathlib.Core.Path.{_≡_, refl, sym, _∙_, ap}
 use mathlib.Core.Bool.{true}
 use mathlib.Core.Logic.{inl, inr, ⊎-elim}

@@ -1,9 +1,8 @@
 -- What the shape of a cut says of its pieces, in the words of the rules: they adjoin, make up the whole, and are not empty.
 -- Assumes nothing.
-use Prim.Native.Nat.{ℕ, _+_, _≤_, _<_}
+use Prim.Native.Nat.{ℕ, _<_}
 use mathlib.Core.Path.{_≡_, refl, sym, _∙_}
 use mathlib.Core.Bool.{Bool, true, false, false≢true}
-use native.Mathlib.Omega.{arith}
 use Rattle.geometry.specs.Choice.{pick-elim}
 use Rattle.geometry.specs.Cuts.{flip, emptyRect, FitsIn, atCorner, splitOf, leftoverOf, exactFit, cutWay, cutOf}
 use Rattle.geometry.specs.CutLaws.{exact-fills, exact-no-pieces, cut-pieces, split-not-empty}

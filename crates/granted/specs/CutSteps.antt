@@ -11,11 +11,10 @@ use Rattle.sound.specs.View.{to, Seen}
 use Rattle.forest.specs.Flips.{flip-flip}
 use Rattle.forest.specs.Pigeon.{In, Distinct}
 use Rattle.changes.specs.Joins.{Parts}
-use Rattle.changes.specs.Swaps.{Elsewhere}
 use Rattle.changes.specs.Merges.{Rekind}
 use Rattle.changes.specs.Grants.{Along, AlongLeft, Across, AcrossLeft}
 use Rattle.granted.specs.Members.{all-of, none-of}
-use Rattle.granted.specs.CutShapes.{InTwo, InThree}
+use Rattle.granted.specs.CutShapes.{InThree}
 use Rattle.granted.specs.Writes.{Turned, Beside, Pair}
 
 module _ {get get′ : ℕ → Seen} {i : ℕ} {q : Rectangle} where

@@ -3,7 +3,7 @@
 use Prim.Native.Nat.{ℕ, zero, suc, _+_, _-_, _*_, _≤_, _<_}
 use mathlib.Core.Path.{_≡_, refl, sym, _∙_, ap}
 use mathlib.Core.Bool.{Bool, true, false, false≢true}
-use mathlib.Core.Logic.{_⊎_, inl, inr, ⊎-elim}
+use mathlib.Core.Logic.{inl, inr, ⊎-elim}
 use mathlib.Core.List.{List, [], _∷_}
 use native.Mathlib.Omega.{arith}
 use lib.Dec.{ltb}
@@ -11,15 +11,14 @@ use lib.ListN.{length, getD, set, length-set}
 use lib.Seq.{getD-set-other}
 use borrow.Author.Tests.{ltb-true, ltb-false}
 use Rattle.geometry.specs.Choice.{pick-elim}
-use Rattle.slots.specs.Slots.{slot, isNone, nodeAt}
-use Rattle.slots.specs.declared.AllocIndex.{AllocIndex}
-use Rattle.steps.specs.Spares.{stepped, withSpare, withCount, Fresh, fresh, newNode, HasSpare, unusedBelow, spareSlots}
+use Rattle.slots.specs.Slots.{slot, isNone, nodeAt, HasSlot}
+use Rattle.steps.specs.Spares.{stepped, withSpare, withCount, Fresh, newNode, HasSpare, unusedBelow, spareSlots}
 use Rattle.steps.specs.declared.Head.{Head}
-use Rattle.sound.specs.View.{Link, none, to, linkOf, Seen, seen, inUse, Live, Dead}
+use Rattle.sound.specs.View.{Link, none, to, linkOf, Seen, seen, inUse, Dead}
 use Rattle.sound.specs.Rules.{Ends, arrived, onward, Visits, it, later}
 use Rattle.sound.specs.Sound.{SpareChain}
 use Rattle.forest.specs.Pigeon.{In, Distinct}
-use Rattle.forest.specs.Ends.{EndsIn, in-ends}
+use Rattle.forest.specs.Ends.{EndsIn, in-ends, ends-unique}
 use Rattle.forest.specs.Spare.{none-visits, visits-step, chain-visits-once, spare-steps}
 use Rattle.forest.specs.Back.{to-inj, no-link}
 use Rattle.links.specs.LinkLaws.{link-none, link-some, link-of-slot}
@@ -60,10 +59,6 @@ start-taking w g h S l =
       left = (unusedBelow w (h .count), rw unused-count at (spare-steps (seen w) (h .count) (linkOf (h .spare)) S), omega arith);
     }
 
-none-ends : (f : ℕ → Link) (l : Link) (k : ℕ) → EndsIn f l k → l ≡ none → k ≡ 0
-none-ends f l zero e q = refl
-none-ends f l (suc k) e q = absurd (no-link (sym q ∙ e .1))
-
 -- One step onward.
 onward-ends : (f : ℕ → Link) (l : Link) (k i : ℕ) → EndsIn f l k → l ≡ to i → (m : ℕ) × EndsIn f (f i) m × (k ≡ suc m)
 onward-ends f l zero i e q = absurd (no-link (sym e ∙ q))
@@ -84,9 +79,13 @@ module _ {w g g′ : List ℕ} {h h′ : Head} {new : List ℕ} (few : length g 
   -- Where spare slots are left and none is in the chain, n is below N.
   room : length new < spareSlots w (length g) (h .count) → h′ .count ≤ h′ .spare .0 → h′ .count < length g
   room some l =
-      let z = none-ends (λ j. seen w j .next) (linkOf (h′ .spare)) (T .left .0) (T .left .1) (no-spare l) in
+      let z = ends-unique (λ j. seen w j .next) (linkOf (h′ .spare)) (T .left .0) 0 (T .left .1) (no-spare l) in
       let e = T .left .2 in
       omega arith
+
+  -- A new slot is a slot of the table.
+  pub new-has-slot : length g * 8 ≤ length w → (x : ℕ) → In x new → HasSlot w (slot x)
+  new-has-slot slots x m = omega (arith, T .taken .below x m, T .fits)
 
   -- With a spare slot left, a new slot can be taken.
   pub has-spare : length g * 8 ≤ length w → length new < spareSlots w (length g) (h .count) → HasSpare w g′ h′

@@ -1,21 +1,20 @@
 -- The new slots of an allocate: where enough are spare, each shape's are taken in creation order.
 -- Assumes nothing.
-use Prim.Native.Nat.{ℕ, _+_, _*_, _≤_, _<_}
+use Prim.Native.Nat.{ℕ, _≤_}
 use mathlib.Core.Path.{_≡_, refl}
 use mathlib.Core.List.{List, [], _∷_}
 use native.Mathlib.Omega.{arith}
 use lib.ListN.{length}
 use Rattle.slots.specs.declared.AllocIndex.{AllocIndex}
-use Rattle.steps.specs.Spares.{Fresh, newNode, HasSpare, spareSlots}
+use Rattle.steps.specs.Spares.{spareSlots}
 use Rattle.steps.specs.State.{State}
 use Rattle.steps.specs.declared.Head.{Head}
 use Rattle.sound.specs.Sound.{Sound}
-use Rattle.starts.specs.StartWhen.{LentOf}
 use Rattle.grants.specs.Carves.{News, newsOf}
 use Rattle.grants.specs.Shapes.{slotsNeeded}
 use Rattle.grants.specs.declared.Shape.{Shape}
 use Rattle.grants.specs.declared.Shape.the-variants.{Exact, Along, AlongLeft, Across, AcrossLeft}
-use Rattle.granted.specs.NewSlots.{Taking, start-taking, slot-taken, has-spare}
+use Rattle.granted.specs.NewSlots.{Taking, start-taking, slot-taken}
 
 -- The new slots of a shape, the latest first.
 abbrev pub newOnes : Shape → News → List ℕ

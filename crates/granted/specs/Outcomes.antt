@@ -1,21 +1,21 @@
 -- The tables that an allocate leaves are sound, and their lengths in range: those of a refusal, and those of a cut.
 -- Assumes nothing.
-use Prim.Native.Nat.{ℕ, _+_, _*_, _≤_, _<_}
-use mathlib.Core.Path.{_≡_, refl, sym, subst, _∙_, ap}
-use mathlib.Core.Bool.{true, false, false≢true}
+use Prim.Native.Nat.{ℕ}
+use mathlib.Core.Path.{_≡_, sym, subst, _∙_, ap}
+use mathlib.Core.Bool.{true, false≢true}
 use mathlib.Core.Logic.{inl, inr, ⊎-elim}
-use mathlib.Core.List.{List, [], _∷_}
+use mathlib.Core.List.{List, []}
 use native.Mathlib.Omega.{arith}
 use native.Mathlib.Decide.{ℕ-discrete}
-use lib.ListN.{length, getD}
+use lib.ListN.{length}
 use Rattle.geometry.specs.declared.Bucket.{Bucket}
 use Rattle.geometry.specs.declared.Bucket.the-variants.{Small, Medium, Large}
 use Rattle.geometry.specs.declared.Rectangle.{Rectangle}
 use Rattle.lists.specs.FreeLists.{Lists, listOf}
 use Rattle.steps.specs.State.{State, listsOf}
 use Rattle.steps.specs.declared.Head.{Head}
-use Rattle.sound.specs.View.{linkOf, Seen, seen, inUse, Live, Dead}
-use Rattle.sound.specs.Sound.{Sound, Counted, SpareChain, sheetOf}
+use Rattle.sound.specs.View.{linkOf, seen, inUse, Live}
+use Rattle.sound.specs.Sound.{Sound, SpareChain, sheetOf}
 use Rattle.forest.specs.Pigeon.{In}
 use Rattle.starts.specs.StartWhen.{LentOf}
 use Rattle.grants.specs.Grants.{withLists}
@@ -37,9 +37,9 @@ refusal-sound {s} S K = record {
     some = S .rule1 .some;
     fits = S .rule1 .fits;
     valid = S .rule1 .valid;
-    within = K .within;
+    within = K .filed .within;
     root = S .rule1 .root;
-    entries = K .entries;
+    entries = K .filed .entries;
   };
   rule2 = S .rule2;
   rule3 = S .rule3;
@@ -73,9 +73,9 @@ module _ {s : State} (w′ : List ℕ) {g′ new : List ℕ} {h′ : Head} {i a 
           some = omega (arith, S .rule1 .some, T .taken .grow);
           fits = rw (T .bytes) (T .fits);
           valid = rw (sheet, options) (S .rule1 .valid);
-          within = K .within;
+          within = K .filed .within;
           root = rw root (omega (arith, S .rule1 .root, T .taken .grow));
-          entries = K .entries;
+          entries = K .filed .entries;
         };
         rule2 = chain-after;
         rule3 = rw root (C .kept .links);

@@ -1,19 +1,19 @@
 -- What sound tables of lengths in range give an allocate: lists ready to be searched, room in the tables, and a chosen slot that is
 -- live, Free and as large as the request.
 -- Assumes nothing.
-use Prim.Native.Nat.{ℕ, _+_, _*_, _≤_, _<_}
-use mathlib.Core.Path.{_≡_, refl, subst}
+use Prim.Native.Nat.{ℕ, _*_, _≤_, _<_}
+use mathlib.Core.Path.{_≡_, subst}
+use mathlib.Core.Bool.{false}
 use mathlib.Core.Logic.{inr}
-use mathlib.Core.List.{List}
 use native.Mathlib.Omega.{arith}
 use lib.ListN.{length, getD}
-use Rattle.geometry.specs.Cuts.{FitsIn, widthOf, heightOf}
+use Rattle.geometry.specs.Cuts.{FitsIn}
 use Rattle.geometry.specs.Sides.{setupOf}
 use Rattle.geometry.specs.declared.Bucket.{Bucket}
 use Rattle.geometry.specs.declared.Bucket.the-variants.{Small, Medium, Large}
 use Rattle.geometry.specs.declared.Extent.{Extent}
 use Rattle.geometry.specs.declared.Setup.{Setup}
-use Rattle.slots.specs.Slots.{slot, nodeAt}
+use Rattle.slots.specs.Slots.{slot, isNone, nodeAt, HasSlot}
 use Rattle.slots.specs.declared.AllocIndex.{AllocIndex}
 use Rattle.slots.specs.declared.NodeKind.the-variants.{Free}
 use Rattle.lists.specs.FreeLists.{Lists, listOf}
@@ -22,9 +22,10 @@ use Rattle.search.specs.Scans.{Lookable}
 use Rattle.search.specs.Search.{Searched, findSuitable, Searchable}
 use Rattle.search.specs.declared.Chosen.the-variants.{At}
 use Rattle.steps.specs.State.{State, listsOf}
-use Rattle.sound.specs.View.{seen, inUse, Live}
+use Rattle.sound.specs.View.{seen, Live}
 use Rattle.sound.specs.Rules.{NotEmpty}
 use Rattle.sound.specs.Sound.{Sound, sheetOf}
+use Rattle.links.specs.LinkLaws.{link-some}
 use Rattle.changes.specs.Pieces.{leaf-filled}
 use Rattle.starts.specs.StartWhen.{LentOf}
 
@@ -70,6 +71,15 @@ module _ (s : State) (L : LentOf s) where
 
     pub sound-searchable : Searchable (s .words) (listsOf s)
     sound-searchable b = record { within = S .rule1 .within b; entries = λ k h. slot-lookable _ (S .rule1 .entries b k h) }
+
+    -- So a live slot and its next, if any, are slots of the table.
+    pub live-has-slot : (x : ℕ) → Live (seen (s .words)) (s .head .count) x → HasSlot (s .words) (slot x)
+    live-has-slot x v = slot-lookable x (v .0) .has
+
+    pub next-has-slot : (i : AllocIndex) → Live (seen (s .words)) (s .head .count) (i .0) → isNone (nodeAt (s .words) i .next) ≡ false
+        → HasSlot (s .words) (nodeAt (s .words) i .next)
+    unfolding seen
+    next-has-slot i v e = live-has-slot (nodeAt (s .words) i .next .0) (S .rule3 .next-live (i .0) (nodeAt (s .words) i .next .0) v (link-some (nodeAt (s .words) i .next) e))
 
     -- What the search chooses.
     pub search-picks : (e : Extent) (f : Searched) → f ≡ findSuitable (s .words) (setupAt s) e (listsOf s)

@@ -1,7 +1,7 @@
--- The free lists through an allocate: rules 1 and 6 of them, but for the slots that are still to be pushed.
+-- The free lists through an allocate, as rules 1 and 6 speak of them, but for the slots that are still to be pushed.
 -- Assumes nothing.
-use Prim.Native.Nat.{ℕ, _+_, _*_, _≤_, _<_}
-use mathlib.Core.Path.{_≡_, refl, sym, subst, _∙_, ap}
+use Prim.Native.Nat.{ℕ, _*_, _≤_, _<_}
+use mathlib.Core.Path.{_≡_, sym, _∙_, ap}
 use mathlib.Core.Bool.{true}
 use mathlib.Core.Logic.{inl, inr, ⊎-elim}
 use mathlib.Core.List.{List, [], _∷_}
@@ -14,19 +14,17 @@ use Rattle.geometry.specs.declared.Bucket.{Bucket}
 use Rattle.geometry.specs.declared.Extent.{Extent}
 use Rattle.geometry.specs.declared.Rectangle.{Rectangle}
 use Rattle.geometry.specs.declared.Setup.{Setup}
-use Rattle.slots.specs.Slots.{slot, nodeAt}
-use Rattle.slots.specs.declared.NodeKind.the-variants.{Container, Alloc, Free}
+use Rattle.slots.specs.Slots.{slot}
+use Rattle.slots.specs.declared.NodeKind.the-variants.{Free}
 use Rattle.lists.specs.Counts.{occurrences}
-use Rattle.lists.specs.FreeLists.{Lists, listOf, withList, Within, removedFrom}
-use Rattle.lists.specs.FreeListLaws.{listOf-withList-same, withList-elim, pushedTo-within, removedFrom-within}
-use Rattle.lists.specs.ListLaws.{length-removed, each-removed}
-use Rattle.lists.specs.Lists.{Bag, removed, pushed, freeEntry, Each, Pushable}
+use Rattle.lists.specs.FreeLists.{Lists, listOf, withList, removedFrom}
+use Rattle.lists.specs.FreeListLaws.{listOf-withList-same, withList-elim}
+use Rattle.lists.specs.Lists.{Bag, removed, pushed, freeEntry, Pushable}
 use Rattle.lists.specs.OccurrenceLaws.{removed-others, place-occurs, occurs-at, push-enters, push-keeps-free}
-use Rattle.lists.specs.PushLaws.{length-pushed, each-pushed}
-use Rattle.search.specs.FindLaws.{idealOf, search-keeps-searchable, search-within, search-keeps-free, search-each}
+use Rattle.search.specs.FindLaws.{idealOf, search-keeps-free}
 use Rattle.search.specs.Search.{Searched, findSuitable, Searchable}
 use Rattle.steps.specs.State.{State, listsOf}
-use Rattle.sound.specs.View.{Seen, seen, seenAs}
+use Rattle.sound.specs.View.{seen}
 use Rattle.sound.specs.Sound.{Sound, HasEntry}
 use Rattle.forest.specs.Pigeon.{In, In-dec}
 use Rattle.changes.specs.Swaps.{Taken}
@@ -37,19 +35,17 @@ use Rattle.grants.specs.declared.Shape.{Shape}
 use Rattle.grants.specs.declared.Shape.the-variants.{Exact, Along, AlongLeft, Across, AcrossLeft}
 use Rattle.geometry.specs.declared.Cut.{Cut}
 use Rattle.granted.specs.Members.{AllOf}
-use Rattle.granted.specs.Carved.{Piece, piece, slotsOf, Hold, Became, request, box, free, Carving}
+use Rattle.granted.specs.Filed.{Filed, sound-filed, filed-more, search-filed, removed-filed, filed-pushable, pushed-filed}
+use Rattle.granted.specs.Carved.{Piece, slotsOf, Hold, Became, request, box, free, Carving}
 use Rattle.granted.specs.TableCut.{piecesOf}
 
 -- The bucket of slot x's rectangle.
 abbrev pub bucketAt : List ℕ → Setup → ℕ → Bucket
 bucketAt w s x = idealOf s (widthOf (seen w x .rect)) (heightOf (seen w x .rect))
 
--- Lists in their tables, whose lengths are those of `was`: the entries are below n, and each Free slot below n, but those still
--- to be pushed, has an entry in its own bucket's list.
+-- Filed lists that have an entry, in its own bucket's list, of each Free slot below n but those still to be pushed.
 pub record Stocked (w : List ℕ) (n : ℕ) (s : Setup) (was l : Lists) (still : List ℕ) : Type 0 where
-  pub within : Within l
-  pub tables : (b : Bucket) → length (listOf b l .table) ≡ length (listOf b was .table)
-  pub entries : (b : Bucket) → Each (λ x. x < n) (listOf b l)
+  pub filed : Filed n was l
   pub listed : (x : ℕ) → x < n → seen w x .kind ≡ Free → (In x still → ⊥) → 0 < occurrences x (listOf (bucketAt w s x) l)
 
 -- A Free slot's entry is one of a Free slot.
@@ -60,9 +56,7 @@ free-entry w x e = rw e
 -- So are the lists of sound tables,
 pub sound-stocked : {s : State} → Sound s → Stocked (s .words) (s .head .count) (setupOf (s .head .sheet) (s .head .options)) (listsOf s) (listsOf s) []
 sound-stocked {s} S = record {
-  within = S .rule1 .within;
-  tables = λ b. refl;
-  entries = S .rule1 .entries;
+  filed = sound-filed S;
   listed = λ x l f m. let k = S .rule6 x l f in place-occurs x (listOf (bucketAt (s .words) (setupOf (s .head .sheet) (s .head .options)) x) (listsOf s)) (k .0) (k .1) (k .2);
 }
 
@@ -76,9 +70,7 @@ stocked-entry {w} {n} {s} {was} {l} K x h f =
 pub search-stocks : {w : List ℕ} {n : ℕ} {s : Setup} {was l : Lists} → Stocked w n s was l [] → Searchable w l
     → (e : Extent) (f : Searched) → f ≡ findSuitable w s e l → Stocked w n s was (f .lists) []
 search-stocks {w} {n} {s} {was} {l} K R e f q = record {
-  within = λ b. search-keeps-searchable w s e l f q R b .within;
-  tables = λ b. search-within w s e l f q R b .0 ∙ K .tables b;
-  entries = λ b. search-each w s e l f q R (λ x. x < n) b (K .entries b);
+  filed = search-filed w s e f q R (K .filed);
   listed = λ x h y m. rw (search-keeps-free w s e l f q R (bucketAt w s x) x (free-entry w x y)) (K .listed x h y m);
 }
 
@@ -87,16 +79,10 @@ pub removal-stocks : {w w′ : List ℕ} {n n′ root i a : ℕ} {new : List ℕ
     → Stocked w n s was l [] → Taken (seen w) n n′ new → Carving (seen w) (seen w′) n n′ root i a new pieces q
     → (b : Bucket) (k : ℕ) → k < listOf b l .len → getD (listOf b l .table) k 0 ≡ i → Stocked w′ n′ s was (removedFrom b k l) (slotsOf pieces)
 removal-stocks {w} {w′} {n} {n′} {root} {i} {a} {new} {pieces} {q} {s} {was} {l} K W C b k p e = record {
-  within = removedFrom-within b k l (K .within);
-  tables = withList-elim (λ c (x : Bag). length (x .table) ≡ length (listOf c was .table)) b (removed (listOf b l) k) l (length-removed (listOf b l) k ∙ K .tables b) (K .tables);
-  entries = withList-elim (λ _ (x : Bag). Each (λ y. y < n′) x) b (removed (listOf b l) k) l
-      (each-removed (λ y. y < n′) (listOf b l) k p (K .within b) (more b)) more;
+  filed = filed-more (W .grow) (removed-filed b k p (K .filed));
   listed = λ x h f m. still x h f m (In-dec x (i ∷ new));
 }
   where
-    more : (c : Bucket) → Each (λ y. y < n′) (listOf c l)
-    more c j h = let z = K .entries c j h in let g = W .grow in omega arith
-
     was-free : (x : ℕ) → Became (seen w′) a pieces x → seen w′ x .kind ≡ Free → In x (slotsOf pieces)
     was-free x (request y z) f = let z : _≡_ {A = ℕ} 0 1 = cc in absurd (omega arith)
     was-free x (box z) f = let z : _≡_ {A = ℕ} 0 1 = cc in absurd (omega arith)
@@ -110,7 +96,7 @@ removal-stocks {w} {w′} {n} {n′} {root} {i} {a} {new} {pieces} {q} {s} {was}
         let had = K .listed x (W .counted x h (λ z. y (inr z))) (sym (ap (λ z. z .kind) same) ∙ f) (λ z. z) in
         rw same
         (withList-elim (λ c (r : Bag). 0 < occurrences x (listOf c l) → 0 < occurrences x r) b (removed (listOf b l) k) l
-        (λ o. rw (removed-others x (listOf b l) k p (K .within b) (λ z. y (inl (sym z ∙ e)))) o) (λ c o. o) (bucketAt w s x) had)
+        (λ o. rw (removed-others x (listOf b l) k p (K .filed .within b) (λ z. y (inl (sym z ∙ e)))) o) (λ c o. o) (bucketAt w s x) had)
 
 -- PUSH. Each Free piece gets its entry, and no Free slot loses all of its own.
 module _ (w : List ℕ) (n : ℕ) (s : Setup) (was : Lists) (slots : n * 8 ≤ length w) (few : length w ≤ 32768)
@@ -118,10 +104,7 @@ module _ (w : List ℕ) (n : ℕ) (s : Setup) (was : Lists) (slots : n * 8 ≤ l
   pub push-stocks : {l : Lists} {still : List ℕ} (p : Piece) → Stocked w n s was l (p .slot ∷ still) → p .slot < n → seen w (p .slot) .rect ≡ p .rect
       → Stocked w n s was (entered w s (slot (p .slot)) (p .rect) l) still
   push-stocks {l} {still} p K h r = record {
-    within = pushedTo-within w v b l can (K .within);
-    tables = withList-elim (λ c (x : Bag). length (x .table) ≡ length (listOf c was .table)) b (pushed w v (listOf b l)) l
-        (length-pushed w v (listOf b l) can ∙ K .tables b) (K .tables);
-    entries = withList-elim (λ _ (x : Bag). Each (λ y. y < n) x) b (pushed w v (listOf b l)) l (each-pushed w v (listOf b l) can (λ y. y < n) (K .entries b) h) (K .entries);
+    filed = pushed-filed w slots few room v h b (K .filed);
     listed = λ x g f m. entry x g f m (ℕ-discrete x v);
   }
     where
@@ -132,12 +115,7 @@ module _ (w : List ℕ) (n : ℕ) (s : Setup) (was : Lists) (slots : n * 8 ≤ l
       b = idealOf s (widthOf (p .rect)) (heightOf (p .rect))
 
       can : Pushable w v (listOf b l)
-      can = record {
-        entries = record { within = K .within b; has = λ k g. let z = K .entries b k g in omega arith };
-        few = few;
-        room = rw (K .tables b) (room b);
-        slots = omega arith;
-      }
+      can = filed-pushable w slots few room v h b (K .filed)
 
       entry : (x : ℕ) → x < n → seen w x .kind ≡ Free → (In x still → ⊥) → Dec (x ≡ v)
           → 0 < occurrences x (listOf (bucketAt w s x) (withList b (pushed w v (listOf b l)) l))

@@ -1,6 +1,6 @@
 -- The slot table after the cut of a Free slot: it is carved as its shape says.
 -- Assumes nothing.
-use Prim.Native.Nat.{ℕ, _+_, _*_, _≤_, _<_}
+use Prim.Native.Nat.{ℕ, _*_, _≤_}
 use mathlib.Core.Path.{_≡_, refl, sym, _∙_, ap}
 use mathlib.Core.Logic.{inl, inr}
 use mathlib.Core.List.{List, [], _∷_}
@@ -15,14 +15,14 @@ use Rattle.slots.specs.SlotLaws.{length-stored}
 use Rattle.slots.specs.declared.AllocIndex.{AllocIndex}
 use Rattle.slots.specs.declared.NodeKind.the-variants.{Container, Alloc, Free}
 use Rattle.steps.specs.declared.Head.{Head}
-use Rattle.sound.specs.View.{to, seen, Live}
+use Rattle.sound.specs.View.{seen, Live}
 use Rattle.sound.specs.Rules.{NotEmpty, PlaceChain}
 use Rattle.sound.specs.Sound.{Linked, Merged}
 use Rattle.forest.specs.Pigeon.{In}
 use Rattle.grants.specs.Carves.{News, newsOf, beside, pairUnder, carved}
 use Rattle.grants.specs.declared.Shape.{Shape}
 use Rattle.grants.specs.declared.Shape.the-variants.{Exact, Along, AlongLeft, Across, AcrossLeft}
-use Rattle.granted.specs.NewSlots.{Taking}
+use Rattle.granted.specs.NewSlots.{Taking, new-has-slot}
 use Rattle.granted.specs.News.{newOnes}
 use Rattle.granted.specs.Writes.{NextApart, length-turned, length-beside, length-pair, kind-writes, turn-writes, beside-writes, pair-writes}
 use Rattle.granted.specs.CutShapes.{CutsAs}
@@ -54,7 +54,7 @@ module _ (w g : List ℕ) (h : Head) {root : ℕ} {all : Rectangle} (slots : len
   has-chosen = omega (arith, lv .0)
 
   has-new : {new g′ : List ℕ} {h′ : Head} → Taking w g h new g′ h′ → (x : ℕ) → In x new → HasSlot w (slot x)
-  has-new T x m = omega (arith, T .taken .below x m, T .fits)
+  has-new T = new-has-slot (omega arith) T slots
 
   next-fine : (new g′ : List ℕ) (h′ : Head) → Taking w g h new g′ h′ → (s : ℕ) → In s new → NextApart w (i .0) s
   next-fine new g′ h′ T s m j e =

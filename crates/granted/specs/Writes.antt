@@ -1,13 +1,13 @@
 -- What each write of an allocate leaves, as the rules see the table: some slots are new, every other is as it was.
 -- Assumes nothing.
-use Prim.Native.Nat.{ℕ, _+_, _*_, _≤_, _<_}
-use mathlib.Core.Path.{_≡_, refl, sym, _∙_, ap}
-use mathlib.Core.Bool.{Bool, true, false}
+use Prim.Native.Nat.{ℕ, _≤_}
+use mathlib.Core.Path.{_≡_, sym, _∙_, ap}
+use mathlib.Core.Bool.{true, false}
 use mathlib.Core.Logic.{inl, inr, ⊎-elim}
 use mathlib.Core.List.{List, [], _∷_}
 use native.Mathlib.Omega.{arith}
 use lib.ListN.{length}
-use Rattle.geometry.specs.Choice.{pick, pick-elim}
+use Rattle.geometry.specs.Choice.{pick-elim}
 use Rattle.geometry.specs.declared.Orientation.{Orientation}
 use Rattle.geometry.specs.declared.Rectangle.{Rectangle}
 use Rattle.slots.specs.Slots.{slot, isNone, nodeAt, HasSlot}
@@ -19,9 +19,9 @@ use Rattle.slots.specs.declared.NodeKind.the-variants.{Alloc, Free}
 use Rattle.sound.specs.View.{none, to, linkOf, Seen, seen, seenAs}
 use Rattle.forest.specs.Pigeon.{In}
 use Rattle.forest.specs.Back.{to-inj, no-link}
-use Rattle.links.specs.LinkLaws.{link-none, link-some, link-of-slot, link-names}
+use Rattle.links.specs.LinkLaws.{link-none, link-some, link-of-slot}
 use Rattle.changes.specs.Stands.{cell}
-use Rattle.changes.specs.Swaps.{withPrev, Elsewhere}
+use Rattle.changes.specs.Swaps.{Elsewhere}
 use Rattle.changes.specs.Merges.{Rekind}
 use Rattle.grants.specs.Carves.{turned, answeredBy, splitNode, beside, firstNode, lastNode, pairUnder}
 
