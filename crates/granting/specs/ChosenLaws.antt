@@ -65,7 +65,7 @@ module _ {w g : List ℕ} {h : Head} {l : Lists} {e : Extent} {i : AllocIndex} {
       let u = cut-upright (nodeAt w i .rect) (e .width) (e .height) (nodeAt w i .orientation) c cut (r .fits) in
       let s = r .spare in
       record {
-        can = can-take (slotsNeeded shape) (s .few) (s .slots) (start-taking w g h (s .chain) (s .below)) (leb-true (slotsNeeded shape) _ enough);
+        can = can-take (slotsNeeded shape) (s .few) (s .slots) (start-taking w g h (s .chain) (s .below)) (let z = leb-true (slotsNeeded shape) (spareSlots w (length g) (h .count)) enough in omega arith);
         few = s .few;
         slots = s .slots;
         chosen = r .chosen;
