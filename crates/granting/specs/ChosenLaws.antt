@@ -1,7 +1,7 @@
 -- On sound tables the chosen slot is ready for its cut.
 -- Assumes nothing.
-use mathlib.Core.Path.{_≡_, refl, ap, subst}
-use mathlib.Core.Bool.{true, false}
+use mathlib.Core.Path.{_≡_, refl, sym, _∙_}
+use mathlib.Core.Bool.{Bool, true, false}
 use mathlib.Core.List.{List, []}
 use Prim.Native.Nat.{ℕ, zero, suc, _+_, _*_, _≤_, _<_}
 use native.Mathlib.Omega.{arith}
@@ -19,19 +19,20 @@ use Rattle.geometry.specs.declared.Rectangle.{Rectangle}
 use Rattle.geometry.specs.declared.Setup.{Setup}
 use Rattle.slots.specs.Slots.{slot, nodeAt, isNone, HasSlot}
 use Rattle.slots.specs.declared.AllocIndex.{AllocIndex}
+use Rattle.slots.specs.declared.Node.{Node}
 use Rattle.lists.specs.FreeLists.{Lists, listOf}
 use Rattle.search.specs.FindLaws.{search-within, search-each}
 use Rattle.search.specs.Search.{Searched, findSuitable}
-use Rattle.search.specs.declared.Chosen.the-variants.{At}
+use Rattle.search.specs.declared.Chosen.the-variants.{At, Nothing}
 use Rattle.steps.specs.Spares.{newNode, spareSlots}
-use Rattle.steps.specs.State.{State, listsOf}
+use Rattle.steps.specs.State.{State, state, listsOf}
 use Rattle.steps.specs.declared.Head.{Head}
 use Rattle.sound.specs.View.{linkOf, seen}
 use Rattle.sound.specs.Sound.{Sound}
 use Rattle.links.specs.LinkLaws.{link-some}
 use Rattle.starts.specs.StartWhen.{LentOf}
 use Rattle.entries.specs.Entries.{ListReady, ListsReady}
-use Rattle.grants.specs.Grants.{Grant, grant, taken, cutFor}
+use Rattle.grants.specs.Grants.{Grant, refused, withLists, taken, cutFor, grantOf, granted}
 use Rattle.grants.specs.Shapes.{shapeOf, slotsNeeded}
 use Rattle.grants.specs.declared.Shape.{Shape}
 use Rattle.carves.specs.Room.{CanTake}
@@ -57,15 +58,19 @@ cut-upright r w h o c e f =
     (pick-elim (λ (x : Cut). Upright (x .split) × Upright (x .leftover)) (exactFit r w h) _ _
     (λ _. ((omega arith, omega arith), (omega arith, omega arith))) (λ _. split-upright (cutWay r w h) r w h f))
 
-module _ {w g : List ℕ} {h : Head} {l : Lists} {e : Extent} {i : AllocIndex} {b : Bucket} {k : ℕ} (r : ChosenReady w g h l e i b k) (c : Cut)
-    (cut : c ≡ cutOf (nodeAt w i .rect) (e .width) (e .height) (nodeAt w i .orientation)) where
+-- The cut of the chosen slot, from what each call ensures.
+module _ {w g : List ℕ} {h : Head} {l : Lists} {e : Extent} {i : AllocIndex} {b : Bucket} {k : ℕ} (r : ChosenReady w g h l e i b k)
+    (m : Node) (c : Cut) (shape : Shape) (need : ℕ) (enough : Bool) (node : m ≡ nodeAt w i)
+    (cut : c ≡ cutOf (m .rect) (e .width) (e .height) (m .orientation)) (shaped : shape ≡ shapeOf c (m .orientation))
+    (needed : need ≡ slotsNeeded shape) (told : enough ≡ leb need (spareSlots w (length g) (h .count))) where
   -- Where enough slots are spare, the slot can be cut.
-  pub cut-ready : (shape : Shape) → leb (slotsNeeded shape) (spareSlots w (length g) (h .count)) ≡ true → TakeReady shape w g h l i b k c
-  cut-ready shape enough =
-      let u = cut-upright (nodeAt w i .rect) (e .width) (e .height) (nodeAt w i .orientation) c cut (r .fits) in
+  pub cut-ready : enough ≡ true → TakeReady shape w g h l i b k c
+  cut-ready t =
+      let u = cut-upright (m .rect) (e .width) (e .height) (m .orientation) c cut (rw node (r .fits)) in
+      let z = leb-true need (spareSlots w (length g) (h .count)) (sym told ∙ t) in
       let s = r .spare in
       record {
-        can = can-take (slotsNeeded shape) (s .few) (s .slots) (start-taking w g h (s .chain) (s .below)) (let z = leb-true (slotsNeeded shape) (spareSlots w (length g) (h .count)) enough in omega arith);
+        can = can-take (slotsNeeded shape) (s .few) (s .slots) (start-taking w g h (s .chain) (s .below)) (omega arith);
         few = s .few;
         slots = s .slots;
         chosen = r .chosen;
@@ -76,12 +81,27 @@ module _ {w g : List ℕ} {h : Head} {l : Lists} {e : Extent} {i : AllocIndex} {
         left = λ _. u .1;
       }
 
+  module _ (x y z : List ℕ) (setup : Setup) where
+    -- Then it is cut,
+    pub cut-made : enough ≡ true → (t : Grant) → t ≡ taken shape (state h w g x y z) setup l i b k (atCorner (m .rect) (e .width) (e .height)) c → t ≡ cutFor (state h w g x y z) setup l e i b k
+    unfolding cutFor
+    cut-made h₁ t q = rw (← node, ← cut, ← shaped, ← needed, sym told ∙ h₁) q
+
+    -- else 7 is given.
+    pub cut-refused : enough ≡ false → refused 7 (withLists h w g l) ≡ cutFor (state h w g x y z) setup l e i b k
+    unfolding cutFor
+    cut-refused h₁ = rw (← node, ← cut, ← shaped, ← needed, sym told ∙ h₁)
+
 -- What the search chose on sound tables.
-module _ (s : State) (L : LentOf s) (S : Sound s) (e : Extent) (f : Searched) (found : f ≡ findSuitable (s .words) (setupAt s) e (listsOf s)) where
+module _ (s : State) (L : LentOf s) (S : Sound s) (e : Extent) (setup : Setup) (f : Searched) (told : setup ≡ setupAt s)
+    (searches : f ≡ findSuitable (s .words) setup e (listsOf s)) where
+  found : f ≡ findSuitable (s .words) (setupAt s) e (listsOf s)
+  found = rw told at searches
+
   below-has : (x : ℕ) → x < s .head .count → HasSlot (s .words) (slot x)
   below-has x h = omega (arith, S .rule1 .fits, lent-slots s L)
 
-  pub found-lists : ListsReady (s .words) (f .lists)
+  found-lists : ListsReady (s .words) (f .lists)
   found-lists b =
       let z = search-within (s .words) (setupAt s) e (listsOf s) f found (sound-searchable s L S) b in
       record {
@@ -106,3 +126,14 @@ module _ (s : State) (L : LentOf s) (S : Sound s) (e : Extent) (f : Searched) (f
         lists = found-lists;
         place = p .place;
       }
+
+  -- It is cut. (The cut does not look at the lists that it was not given.)
+  pub granted-at : (i : AllocIndex) (b : Bucket) (k : ℕ) → f .chosen ≡ At i b k → (x y z : List ℕ) (t : Grant)
+      → t ≡ cutFor (state (s .head) (s .words) (s .generations) x y z) setup (f .lists) e i b k → t ≡ granted s e
+  unfolding granted grantOf cutFor taken
+  granted-at i b k c x y z t q = rw (← told, ← searches, c) q
+
+  -- Nothing was chosen: 6.
+  pub granted-none : f .chosen ≡ Nothing → refused 6 (withLists (s .head) (s .words) (s .generations) (f .lists)) ≡ granted s e
+  unfolding granted grantOf
+  granted-none c = rw (← told, ← searches, c)

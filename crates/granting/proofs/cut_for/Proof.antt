@@ -1,87 +1,71 @@
+-- `granting::cut_for` meets its contract: where enough slots are spare the slot is cut, else 7.
+-- Assumes nothing.
+use Rattle.granting.specs.ChosenLaws.{cut-ready, cut-made, cut-refused}
 use borrow.Author.Needs.{needs}
 use Rattle.granting.proofs.cut_for.Statement.{statement}
 use Rattle.granting.proofs.cut_for.Tie as tie
-use Rattle.granting.proofs.cut_for.Reads as reads
-use Rattle.granting.proofs.cut_for.Lts as lts
-use Rattle.geometry.proofs.guillotine_rect.Reads as guillotine-rect-reads
-use Rattle.granting.proofs.refusal.Reads as refusal-reads
-use Rattle.granting.proofs.take_chosen.Reads as take-chosen-reads
-use Rattle.grants.proofs.shape_of.Reads as shape-of-reads
-use Rattle.grants.proofs.slots_needed.Reads as slots-needed-reads
-use Rattle.slots.proofs.node_at.Reads as node-at-reads
-use Rattle.spares.proofs.has_spare_slots.Reads as has-spare-slots-reads
 
--- src/lib.rt:195:9
 node-at-requires : tie.Need-node-at-requires
 node-at-requires c κs = search needs
 
--- src/lib.rt:198:9
 guillotine-rect-requires : tie.Need-guillotine-rect-requires
-guillotine-rect-requires c κs = ?
+guillotine-rect-requires c κs = rw (c .before .node-at .ensures) (c .before .before .before .before .before .before .before .before .pre .fits)
 
--- src/lib.rt:199:9
 shape-of-requires : tie.Need-shape-of-requires
 shape-of-requires c κs = search needs
 
--- src/lib.rt:200:9
 slots-needed-requires : tie.Need-slots-needed-requires
 slots-needed-requires c κs = search needs
 
--- src/lib.rt:201:17
 cast-total : tie.Need-cast-total
 cast-total c = search needs
 
--- src/lib.rt:203:8
 has-spare-slots-requires : tie.Need-has-spare-slots-requires
 has-spare-slots-requires c κs = search needs
 
--- src/lib.rt:207:17
 add-t29 : tie.Need-add-t29
-add-t29 c = ?
+add-t29 c = let f = rw (← c .before .before .before .before .before .before .before .before .before .before .node-at .ensures) at (c .before .before .before .before .before .before .before .before .before .before .before .before .before .before .before .before .before .pre .fits) in search (needs, f .wide)
 
--- src/lib.rt:208:17
 add-t30 : tie.Need-add-t30
-add-t30 c = ?
+add-t30 c = let f = rw (← c .before .before .before .before .before .before .before .before .before .before .before .before .node-at .ensures) at (c .before .before .before .before .before .before .before .before .before .before .before .before .before .before .before .before .before .before .before .pre .fits) in search (needs, f .tall)
 
--- src/lib.rt:210:9
 take-chosen-requires : tie.Need-take-chosen-requires
-take-chosen-requires c κs = ?
+take-chosen-requires c κs =
+    cut-ready (c .before .before .before .before .before .before .before .before .before .before .before .before .before .before .before .before .before .before .before .before .before .before .before .before .pre) _ _ _ _ _ (c .before .before .before .before .before .before .before .before .before .before .before .before .before .before .before .before .before .node-at .ensures) (c .before .before .before .before .before .before .before .before .before .before .before .before .before .before .before .guillotine-rect .ensures) (c .before .before .before .before .before .before .before .before .before .before .before .before .before .before .shape-of .ensures) (c .before .before .before .before .before .before .before .before .before .before .before .before .before .slots-needed .ensures .0)
+    (c .before .before .before .before .before .before .before .before .before .before .has-spare-slots .ensures) (c .before .before .before .before .before .before .before .before .before .if1 .taken)
 
--- src/lib.rt:210:9
 same-length : tie.Need-same-length
 same-length c = search needs
 
--- src/lib.rt:210:9
 same-length-2 : tie.Need-same-length-2
 same-length-2 c = search needs
 
--- src/lib.rt:210:9
 same-length-3 : tie.Need-same-length-3
 same-length-3 c = search needs
 
--- src/lib.rt:210:9
 same-length-4 : tie.Need-same-length-4
 same-length-4 c = search needs
 
--- src/lib.rt:210:9
 same-length-5 : tie.Need-same-length-5
 same-length-5 c = search needs
 
--- src/lib.rt:210:9
 returns : tie.Need-returns
-returns c = ?
+returns c =
+    cut-made (c .before .before .before .before .before .before .before .before .before .before .before .before .before .before .before .before .before .before .before .before .before .before .before .before .before .before .before .before .before .before .before .before .before .before .before .pre) _ _ _ _ _ (c .before .before .before .before .before .before .before .before .before .before .before .before .before .before .before .before .before .before .before .before .before .before .before .before .before .before .before .before .node-at .ensures) (c .before .before .before .before .before .before .before .before .before .before .before .before .before .before .before .before .before .before .before .before .before .before .before .before .before .before .guillotine-rect .ensures) (c .before .before .before .before .before .before .before .before .before .before .before .before .before .before .before .before .before .before .before .before .before .before .before .before .before .shape-of .ensures) (c .before .before .before .before .before .before .before .before .before .before .before .before .before .before .before .before .before .before .before .before .before .before .before .before .slots-needed .ensures .0)
+    (c .before .before .before .before .before .before .before .before .before .before .before .before .before .before .before .before .before .before .before .before .before .has-spare-slots .ensures) _ _ _ _ (c .before .before .before .before .before .before .before .before .before .before .before .before .before .before .before .before .before .before .before .before .if1 .taken) _ (c .before .before .before .before .before .before .before .before .before .before .take-chosen .ensures)
 
--- src/lib.rt:229:5
 refusal-requires : tie.Need-refusal-requires
 refusal-requires c κs = search needs
 
--- src/lib.rt:175:1
 same-length-6 : tie.Need-same-length-6
 same-length-6 c = search needs
 
--- src/lib.rt:175:1
 returns-2 : tie.Need-returns-2
-returns-2 c = ?
+returns-2 c =
+    let r = c .refusal .ensures in
+    rw (r .0, r .1, r .2, r .3)
+    (cut-refused (c .before .before .before .before .before .before .before .before .before .before .before .before .before .before .before .before .pre) _ _ _ _ _ (c .before .before .before .before .before .before .before .before .before .node-at .ensures) (c .before .before .before .before .before .before .before .guillotine-rect .ensures) (c .before .before .before .before .before .before .shape-of .ensures) (c .before .before .before .before .before .slots-needed .ensures .0)
+    (c .before .before .has-spare-slots .ensures) _ _ _ _ (c .before .if1 .left))
 
 pub cut-for-spec : {M : Type 1} → statement M
 cut-for-spec =
