@@ -46,17 +46,9 @@ pub record HasSpare (w g : List ℕ) (h : Head) : Type 0 where
   pub counted : h .count ≤ length g
   pub spare : h .count ≤ h .spare .0 → h .count < length g
 
--- A slot out of use, with what that can change.
-pub record Freed : Type 0 where
-  pub head : Head
-  pub words : List ℕ
-
-abbrev pub freed : Head → List ℕ → Freed
-freed h w = record { head = h; words = w }
-
--- Marking unused writes kind and next only, and becomes the chain's head.
-unfoldable pub markUnused : List ℕ → Head → AllocIndex → Freed
-markUnused w h i = freed (withSpare h i) (stored (stored w i (toKind Unused)) i (toNext (h .spare)))
+-- Marking unused writes kind and next only, and becomes the head of the chain that started at `spare`.
+unfoldable pub markedUnused : List ℕ → AllocIndex → AllocIndex → List ℕ
+markedUnused w spare i = stored (stored w i (toKind Unused)) i (toNext spare)
 
 -- 1 where slot i is of the kind, else 0.
 unfoldable pub ofKind : List ℕ → NodeKind → ℕ → ℕ

@@ -8,7 +8,7 @@ ghost use mathlib.Core.Path.{_≡_};
 ghost use Prim.Native.Nat.{_*_, _≤_};
 ghost use lib.ListN.{length};
 ghost use Rattle.slots.specs.Slots.{HasSlot};
-ghost use Rattle.steps.specs.Spares.{stepped, fresh, newNode, freed, markUnused, ofKind, countKind, unusedBelow, spareSlots, HasSpare};
+ghost use Rattle.steps.specs.Spares.{stepped, fresh, newNode, markedUnused, ofKind, countKind, unusedBelow, spareSlots, HasSpare};
 
 // What is kept beside the tables: the sheet and its options, the first slot of the top chain, the first
 // spare slot, how many slots there are, and the lengths of the free lists.
@@ -62,17 +62,13 @@ pub fn new_node(words: &[u32], generations: &mut [u8], head: Head) -> Taken
     }
 }
 
-// Slot i becomes spare: its kind and next are written, and it is the chain's head.
-pub fn mark_node_unused(words: &mut [u32], head: Head, i: AllocIndex) -> Head
+// Slot i becomes spare: its kind and next are written, so that it is the head of the chain that started at `spare`.
+pub fn mark_node_unused(words: &mut [u32], spare: AllocIndex, i: AllocIndex)
     requires { ⌜ HasSlot (now words) i ⌝ }
-    ensures { λ r. ⌜ freed r (now (words .exit)) ≡ markUnused (now (words .entry)) head i ⌝ }
+    ensures { λ _. ⌜ now (words .exit) ≡ markedUnused (now (words .entry)) spare i ⌝ }
 {
-    let spare = head.spare;
     slots::set_kind(words, i, NodeKind::Unused);
     slots::set_next(words, i, spare);
-    let mut after = head;
-    after.spare = i;
-    after
 }
 
 // 1 where slot i is of this kind, else 0.

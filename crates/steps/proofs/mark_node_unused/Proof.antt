@@ -1,4 +1,4 @@
-use Rattle.steps.specs.Spares.{markUnused}
+use Rattle.steps.specs.Spares.{markedUnused}
 use borrow.Author.Needs.{needs}
 use Rattle.steps.proofs.mark_node_unused.Statement.{statement}
 use Rattle.steps.proofs.mark_node_unused.Tie as tie
@@ -13,7 +13,7 @@ same-length : tie.Need-same-length
 same-length c = search needs
 
 returns : tie.Need-returns
-unfolding markUnused
+unfolding markedUnused
 returns c = cc
 
 pub mark-node-unused-spec : {M : Type 1} → statement M

@@ -1,0 +1,1 @@
+// The model of deallocate on whole tables: no code.

@@ -1,0 +1,17 @@
+pub mod NewSlots
+pub mod News
+pub mod Writes
+pub mod CutShapes
+pub mod Members
+pub mod CutSteps
+pub mod Carved
+pub mod TableCut
+pub mod Filed
+pub mod Stocked
+pub mod SoundFacts
+pub mod Outcomes
+pub mod Given
+pub mod Terms
+pub mod TicketLaws
+pub mod Cases
+pub mod Promises

@@ -1,0 +1,1 @@
+// The model of grow on whole tables: no code.
