@@ -12,7 +12,7 @@ use Rattle.geometry.specs.Sides.{setupOf}
 use Rattle.geometry.specs.declared.Bucket.{Bucket}
 use Rattle.geometry.specs.declared.Bucket.the-variants.{Small, Medium, Large}
 use Rattle.lists.specs.Lists.{Each}
-use Rattle.lists.specs.FreeLists.{listOf}
+use Rattle.buckets.specs.FreeLists.{listOf}
 use Rattle.steps.specs.Spares.{unusedBelow}
 use Rattle.steps.specs.State.{State, listsOf}
 use Rattle.sound.specs.Sound.{Counted, Listed, sheetOf}

@@ -12,7 +12,7 @@ use Rattle.geometry.specs.Choice.{pick}
 use Rattle.geometry.specs.Sides.{validSetup}
 use Rattle.slots.specs.Slots.{slot, nodeAt}
 use Rattle.lists.specs.Lists.{Bag, occurs, freeEntry}
-use Rattle.lists.specs.FreeLists.{Lists, listOf}
+use Rattle.buckets.specs.FreeLists.{Lists, listOf}
 use Rattle.steps.specs.State.{State, listsOf}
 use Rattle.steps.specs.declared.Head.{Head}
 use Rattle.sound.specs.View.{linkOf, seen}

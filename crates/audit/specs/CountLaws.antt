@@ -12,7 +12,7 @@ use Rattle.geometry.specs.Sides.{validSetup}
 use Rattle.geometry.specs.declared.Bucket.{Bucket}
 use Rattle.geometry.specs.declared.Bucket.the-variants.{Small, Medium, Large}
 use Rattle.lists.specs.Lists.{Bag, Each}
-use Rattle.lists.specs.FreeLists.{Lists, listOf, Within}
+use Rattle.buckets.specs.FreeLists.{Lists, listOf, Within}
 use Rattle.steps.specs.State.{State, listsOf}
 use Rattle.steps.specs.declared.Head.{Head}
 use Rattle.sound.specs.Sound.{Counted}

@@ -11,7 +11,7 @@ use Rattle.geometry.specs.declared.Bucket.the-variants.{Small, Medium, Large}
 use Rattle.geometry.specs.declared.Rectangle.{Rectangle}
 use Rattle.geometry.specs.declared.Setup.{Setup}
 use Rattle.lists.specs.Lists.{Each}
-use Rattle.lists.specs.FreeLists.{Lists, Within}
+use Rattle.buckets.specs.FreeLists.{Lists, Within}
 use Rattle.steps.specs.Spares.{unusedBelow}
 use Rattle.sound.specs.View.{seen}
 use Rattle.sound.specs.Rules.{PlaceChain}

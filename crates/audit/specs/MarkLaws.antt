@@ -21,7 +21,7 @@ use Rattle.geometry.specs.declared.Setup.{Setup}
 use Rattle.slots.specs.Slots.{slot, nodeAt}
 use Rattle.slots.specs.declared.NodeKind.the-variants.{Free}
 use Rattle.lists.specs.Lists.{occurs, freeEntry}
-use Rattle.lists.specs.FreeLists.{Lists, listOf}
+use Rattle.buckets.specs.FreeLists.{Lists, listOf}
 use Rattle.steps.specs.State.{State, listsOf}
 use Rattle.sound.specs.View.{seen}
 use Rattle.sound.specs.Sound.{HasEntry, ownBucket, Listed}

@@ -1,8 +1,8 @@
 // The check of the tables: the lowest-numbered rule of soundness that is broken, and where.
+use buckets::Lengths;
 use geometry::Bucket;
 use geometry::Rectangle;
 use geometry::Setup;
-use lists::Lengths;
 use places::Placed;
 use slots::AllocIndex;
 use slots::NodeKind;
@@ -14,7 +14,7 @@ ghost use Rattle.geometry.specs.Buckets.{rank};
 ghost use Rattle.slots.specs.Slots.{slot, HasSlot};
 ghost use Rattle.lists.specs.Lists.{bag, Each};
 ghost use Rattle.links.specs.Links.{Table};
-ghost use Rattle.lists.specs.FreeLists.{lists};
+ghost use Rattle.buckets.specs.FreeLists.{lists};
 ghost use Rattle.geometry.specs.Sides.{setupOf};
 ghost use Rattle.sound.specs.View.{seen};
 ghost use Rattle.sound.specs.Sound.{sheetOf};

@@ -13,7 +13,7 @@ use Rattle.geometry.specs.BucketLaws.{rank-injective}
 use Rattle.geometry.specs.declared.Bucket.{Bucket}
 use Rattle.geometry.specs.declared.Bucket.the-variants.{Small, Medium, Large}
 use Rattle.slots.specs.declared.AllocIndex.{AllocIndex}
-use Rattle.lists.specs.FreeLists.{Lists, listOf, withList}
+use Rattle.buckets.specs.FreeLists.{Lists, listOf, withList}
 use Rattle.search.specs.declared.Best.{Best}
 use Rattle.search.specs.declared.Best.the-variants as best
 use Rattle.search.specs.declared.Chosen.{Chosen}
@@ -25,7 +25,7 @@ use Rattle.search.specs.Suits.{Suits}
 use Rattle.geometry.specs.TestLaws.{same-or-not}
 use Rattle.lists.specs.Counts.{occurrences}
 use Rattle.lists.specs.OccurrenceLaws.{occurs-at}
-use Rattle.lists.specs.FreeListLaws.{listOf-withList-same}
+use Rattle.buckets.specs.FreeListLaws.{listOf-withList-same}
 use Rattle.search.specs.Thinned.{Thinned, thinned-twice}
 use Rattle.search.specs.ScanLaws.{listIn, looking-ends}
 use Rattle.search.specs.Candidates.{Scanning, SoFar, scan-scans}

@@ -16,7 +16,7 @@ use Rattle.slots.specs.Slots.{slot, nodeAt}
 use Rattle.slots.specs.declared.AllocIndex.{AllocIndex}
 use Rattle.slots.specs.declared.NodeKind.the-variants.{Free}
 use Rattle.lists.specs.Lists.{freeEntry, Each}
-use Rattle.lists.specs.FreeLists.{Lists, listOf}
+use Rattle.buckets.specs.FreeLists.{Lists, listOf}
 use Rattle.search.specs.declared.Chosen.{Chosen}
 use Rattle.search.specs.declared.Chosen.the-variants.{At, Nothing}
 use Rattle.search.specs.Scans.{Lookable}

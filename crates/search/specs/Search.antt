@@ -12,7 +12,7 @@ use Rattle.geometry.specs.declared.Extent.{Extent}
 use Rattle.geometry.specs.declared.Setup.{Setup}
 use Rattle.slots.specs.Slots.{slot}
 use Rattle.lists.specs.Lists.{Bag, bag}
-use Rattle.lists.specs.FreeLists.{Lists, listOf, withList}
+use Rattle.buckets.specs.FreeLists.{Lists, listOf, withList}
 use Rattle.search.specs.Scans.{scanned, first, scanAll, Ready}
 use Rattle.search.specs.declared.Best.{Best}
 use Rattle.search.specs.declared.Best.the-variants as best

@@ -10,8 +10,8 @@ use Rattle.geometry.specs.declared.Bucket.the-variants.{Small, Medium, Large}
 use Rattle.geometry.specs.declared.Extent.{Extent}
 use Rattle.geometry.specs.declared.Setup.{Setup}
 use Rattle.lists.specs.Lists.{Bag}
-use Rattle.lists.specs.FreeLists.{Lists, listOf, withList}
-use Rattle.lists.specs.FreeListLaws.{withList-elim}
+use Rattle.buckets.specs.FreeLists.{Lists, listOf, withList}
+use Rattle.buckets.specs.FreeListLaws.{withList-elim}
 use Rattle.search.specs.declared.Chosen.{Chosen}
 use Rattle.search.specs.declared.Query.{Query}
 use Rattle.search.specs.Scans.{Scanned, scanned, first, scanAll, Ready}

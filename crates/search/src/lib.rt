@@ -1,15 +1,15 @@
 // The search for a Free rectangle that takes a request.
+use buckets::Lengths;
 use geometry::Bucket;
 use geometry::Extent;
 use geometry::Rectangle;
 use geometry::Setup;
-use lists::Lengths;
 use slots::AllocIndex;
 use slots::NodeKind;
 ghost use mathlib.Core.Path.{_≡_};
 ghost use Prim.Native.Nat.{_≤_, _<_};
 ghost use Rattle.lists.specs.Lists.{bag};
-ghost use Rattle.lists.specs.FreeLists.{lists};
+ghost use Rattle.buckets.specs.FreeLists.{lists};
 ghost use Rattle.search.specs.Scans.{lesser, better, weighed, scanned, first, look, scanAll, Ready};
 ghost use Rattle.search.specs.Search.{BestWithin, chosenOf, scanAnswer, scanBucket, searched, searchOne, isLarge, higher, settled, searchUp, findSuitable, Searchable};
 

@@ -13,7 +13,7 @@ use Rattle.geometry.specs.declared.Rectangle.{Rectangle}
 use Rattle.geometry.specs.declared.Size.{Size}
 use Rattle.slots.specs.declared.NodeKind.the-variants.{Container, Alloc, Free, Unused}
 use Rattle.lists.specs.Lists.{Bag, Each}
-use Rattle.lists.specs.FreeLists.{Lists, listOf, Within}
+use Rattle.buckets.specs.FreeLists.{Lists, listOf, Within}
 use Rattle.steps.specs.State.{State, listsOf}
 use Rattle.sound.specs.View.{Link, none, to, linkOf, Seen, seen, Live, Dead}
 use Rattle.sound.specs.Rules.{Ends, Visits, FirstChild, Leaf, PlaceSlot, PlaceChain}

@@ -17,10 +17,11 @@ use Rattle.slots.specs.Slots.{slot, none, HasSlot}
 use Rattle.slots.specs.SlotLaws.{length-stored}
 use Rattle.slots.specs.Stores.{stored, toNode}
 use Rattle.slots.specs.declared.Node.{Node}
-use Rattle.lists.specs.Lists.{Bag, bag, appended, Entries, Pushable}
-use Rattle.lists.specs.PushLaws.{pushed-room}
-use Rattle.lists.specs.FreeLists.{Lists, lists, listOf, withList, pushedTo}
-use Rattle.lists.specs.declared.Lengths.{Lengths}
+use Rattle.lists.specs.Lists.{Bag, bag, appended, Entries}
+use Rattle.pushes.specs.Pushes.{Pushable}
+use Rattle.pushes.specs.PushLaws.{pushed-room}
+use Rattle.buckets.specs.FreeLists.{Lists, lists, listOf, withList, pushedTo}
+use Rattle.buckets.specs.declared.Lengths.{Lengths}
 use Rattle.steps.specs.State.{State, state}
 use Rattle.steps.specs.declared.Head.{Head}
 use Rattle.starts.specs.Lent.{lent, Lent}

@@ -23,8 +23,8 @@ use Rattle.slots.specs.SlotLaws.{nodeAt-stored-same}
 use Rattle.slots.specs.Stores.{stored, toNode}
 use Rattle.slots.specs.declared.NodeKind.the-variants.{Free}
 use Rattle.lists.specs.Lists.{Bag, bag, appended, Each}
-use Rattle.lists.specs.FreeLists.{Lists, listOf, withList}
-use Rattle.lists.specs.FreeListLaws.{withList-elim, listOf-withList-same}
+use Rattle.buckets.specs.FreeLists.{Lists, listOf, withList}
+use Rattle.buckets.specs.FreeListLaws.{withList-elim, listOf-withList-same}
 use Rattle.steps.specs.State.{State, listsOf}
 use Rattle.sound.specs.View.{linkOf, seen, seenAs}
 use Rattle.sound.specs.Rules.{NotEmpty}

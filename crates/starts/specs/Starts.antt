@@ -17,7 +17,7 @@ use Rattle.slots.specs.Stores.{stored, toNode}
 use Rattle.slots.specs.declared.Node.{Node}
 use Rattle.slots.specs.declared.NodeKind.the-variants.{Free}
 use Rattle.lists.specs.Lists.{bag, appended}
-use Rattle.lists.specs.FreeLists.{Lists, listOf, withList}
+use Rattle.buckets.specs.FreeLists.{Lists, listOf, withList}
 use Rattle.steps.specs.State.{State, state}
 use Rattle.steps.specs.declared.Head.{Head}
 use Rattle.starts.specs.Lent.{lent}

@@ -1,10 +1,10 @@
 // Start, clear and reset: a sheet with one Free slot.
+use buckets::Lengths;
 use geometry::AllocatorOptions;
 use geometry::Orientation;
 use geometry::Rectangle;
 use geometry::Setup;
 use geometry::Size;
-use lists::Lengths;
 use slots::AllocIndex;
 use slots::Node;
 use slots::NodeKind;
@@ -100,7 +100,7 @@ fn begin(
         medium: 0,
         large: 0,
     };
-    let lengths = lists::push_to(words, small, medium, large, none, bucket, 0);
+    let lengths = buckets::push_to(words, small, medium, large, none, bucket, 0);
     Head {
         sheet: sheet,
         options: options,

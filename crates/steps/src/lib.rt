@@ -1,7 +1,7 @@
 // The head, and the steps that take a slot into use and out of it.
+use buckets::Lengths;
 use geometry::AllocatorOptions;
 use geometry::Size;
-use lists::Lengths;
 use slots::AllocIndex;
 use slots::NodeKind;
 ghost use mathlib.Core.Path.{_≡_};
