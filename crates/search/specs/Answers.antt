@@ -14,21 +14,21 @@ use Rattle.geometry.specs.declared.Bucket.{Bucket}
 use Rattle.geometry.specs.declared.Bucket.the-variants.{Small, Medium, Large}
 use Rattle.slots.specs.declared.AllocIndex.{AllocIndex}
 use Rattle.buckets.specs.FreeLists.{Lists, listOf, withList}
-use Rattle.search.specs.declared.Best.{Best}
-use Rattle.search.specs.declared.Best.the-variants as best
+use Rattle.scans.specs.declared.Best.{Best}
+use Rattle.scans.specs.declared.Best.the-variants as best
 use Rattle.search.specs.declared.Chosen.{Chosen}
 use Rattle.search.specs.declared.Chosen.the-variants.{At, Nothing}
-use Rattle.search.specs.declared.Query.{Query}
-use Rattle.search.specs.Scans.{Scanned}
+use Rattle.scans.specs.declared.Query.{Query}
+use Rattle.scans.specs.Scans.{Scanned}
 use Rattle.search.specs.Search.{chosenOf, scanBucket, Searched, searchOne, isLarge, higher, settled, searchUp, Searchable}
-use Rattle.search.specs.Suits.{Suits}
+use Rattle.scans.specs.Suits.{Suits}
 use Rattle.geometry.specs.TestLaws.{same-or-not}
 use Rattle.lists.specs.Counts.{occurrences}
 use Rattle.lists.specs.OccurrenceLaws.{occurs-at}
 use Rattle.buckets.specs.FreeListLaws.{listOf-withList-same}
-use Rattle.search.specs.Thinned.{Thinned, thinned-twice}
-use Rattle.search.specs.ScanLaws.{listIn, looking-ends}
-use Rattle.search.specs.Candidates.{Scanning, SoFar, scan-scans}
+use Rattle.scans.specs.Thinned.{Thinned, thinned-twice}
+use Rattle.scans.specs.ScanLaws.{listIn, looking-ends}
+use Rattle.scans.specs.Candidates.{Scanning, SoFar, scan-scans}
 use Rattle.search.specs.SearchLaws.{one-thins, one-searchable}
 
 -- What is known of the slot that a search of some buckets chose: its entry's place, and that it suits.

@@ -19,11 +19,11 @@ use Rattle.lists.specs.Lists.{freeEntry, Each}
 use Rattle.buckets.specs.FreeLists.{Lists, listOf}
 use Rattle.search.specs.declared.Chosen.{Chosen}
 use Rattle.search.specs.declared.Chosen.the-variants.{At, Nothing}
-use Rattle.search.specs.Scans.{Lookable}
+use Rattle.scans.specs.Scans.{Lookable}
 use Rattle.search.specs.Search.{Searched, queryOf, findSuitable, Searchable}
-use Rattle.search.specs.Suits.{Suits}
+use Rattle.scans.specs.Suits.{Suits}
 use Rattle.lists.specs.Counts.{occurrences}
-use Rattle.search.specs.Thinned.{Thinned, each-thinned}
+use Rattle.scans.specs.Thinned.{Thinned, each-thinned}
 use Rattle.search.specs.SearchLaws.{searchable-thinned}
 use Rattle.search.specs.Answers.{Chose, Answered, up-thins, up-answers}
 

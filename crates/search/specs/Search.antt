@@ -2,8 +2,8 @@
 -- Assumes nothing.
 use mathlib.Core.Bool.{Bool, true, false}
 use mathlib.Core.List.{List}
-use Prim.Native.Nat.{ℕ, zero, suc, _<_}
-use lib.ListN.{length, getD}
+use Prim.Native.Nat.{ℕ, zero, suc}
+use lib.ListN.{getD}
 use Rattle.geometry.specs.Choice.{pick}
 use Rattle.geometry.specs.Buckets.{bucketOf}
 use Rattle.geometry.specs.declared.Bucket.{Bucket}
@@ -13,17 +13,12 @@ use Rattle.geometry.specs.declared.Setup.{Setup}
 use Rattle.slots.specs.Slots.{slot}
 use Rattle.lists.specs.Lists.{Bag, bag}
 use Rattle.buckets.specs.FreeLists.{Lists, listOf, withList}
-use Rattle.search.specs.Scans.{scanned, first, scanAll, Ready}
-use Rattle.search.specs.declared.Best.{Best}
-use Rattle.search.specs.declared.Best.the-variants as best
+use Rattle.scans.specs.Scans.{scanned, first, scanAll, Ready}
+use Rattle.scans.specs.declared.Best.{Best}
+use Rattle.scans.specs.declared.Best.the-variants as best
 use Rattle.search.specs.declared.Chosen.{Chosen}
 use Rattle.search.specs.declared.Chosen.the-variants.{At, Nothing}
-use Rattle.search.specs.declared.Query.{Query}
-
--- The best candidate's place is in the table.
-abbrev pub BestWithin : Best → List ℕ → Type 0
-BestWithin (best.At k) t = k < length t
-BestWithin best.Nothing t = Unit {0}
+use Rattle.scans.specs.declared.Query.{Query}
 
 -- The entry at the best candidate's place, as the answer. It stays in the list.
 abbrev pub chosenOf : Bucket → Best → List ℕ → Chosen

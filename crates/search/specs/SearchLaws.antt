@@ -13,12 +13,12 @@ use Rattle.lists.specs.Lists.{Bag}
 use Rattle.buckets.specs.FreeLists.{Lists, listOf, withList}
 use Rattle.buckets.specs.FreeListLaws.{withList-elim}
 use Rattle.search.specs.declared.Chosen.{Chosen}
-use Rattle.search.specs.declared.Query.{Query}
-use Rattle.search.specs.Scans.{Scanned, scanned, first, scanAll, Ready}
-use Rattle.search.specs.Search.{BestWithin, chosenOf, ScanAnswer, scanAnswer, scanBucket, Searched, searched, searchOne, isLarge, higher, settled, searchUp, findSuitable, Searchable}
-use Rattle.search.specs.Thinned.{Thinned, thinned-itself}
-use Rattle.search.specs.ScanLaws.{listIn, ready-thinned, looking-thins}
-use Rattle.search.specs.Candidates.{scan-scans, scanning-best}
+use Rattle.scans.specs.declared.Query.{Query}
+use Rattle.scans.specs.Scans.{Scanned, scanned, first, scanAll, Ready, BestWithin}
+use Rattle.search.specs.Search.{chosenOf, ScanAnswer, scanAnswer, scanBucket, Searched, searched, searchOne, isLarge, higher, settled, searchUp, findSuitable, Searchable}
+use Rattle.scans.specs.Thinned.{Thinned, thinned-itself}
+use Rattle.scans.specs.ScanLaws.{listIn, ready-thinned, looking-thins}
+use Rattle.scans.specs.Candidates.{scan-scans, scanning-best}
 
 -- The scan of a list that is ready ends with its best candidate in the table.
 pub scan-best : (w : List ℕ) (q : Query) (l : Bag) (o : Scanned) → o ≡ scanAll w q (l .table) (l .len)

@@ -12,10 +12,10 @@ use Rattle.geometry.specs.declared.Rectangle.{Rectangle}
 use Rattle.slots.specs.Slots.{slot, nodeAt, HasSlot}
 use Rattle.slots.specs.declared.NodeKind.the-variants.{Free}
 use Rattle.lists.specs.Lists.{Bag, bag, removed, freeEntry, Each}
-use Rattle.search.specs.declared.Best.{Best}
-use Rattle.search.specs.declared.Best.the-variants.{At, Nothing}
-use Rattle.search.specs.declared.Query.{Query}
-use Rattle.search.specs.declared.Scan.{Scan}
+use Rattle.scans.specs.declared.Best.{Best}
+use Rattle.scans.specs.declared.Best.the-variants.{At, Nothing}
+use Rattle.scans.specs.declared.Query.{Query}
+use Rattle.scans.specs.declared.Scan.{Scan}
 
 unfoldable pub lesser : ℕ → ℕ → ℕ
 lesser a b = pick (leb a b) a b
@@ -93,3 +93,8 @@ pub record Lookable (w : List ℕ) (x : ℕ) : Type 0 where
 pub record Ready (w : List ℕ) (o : Scanned) : Type 0 where
   pub within : o .scan .len ≤ length (o .table)
   pub entries : Each (Lookable w) (bag (o .table) (o .scan .len))
+
+-- The best candidate's place is in the table.
+abbrev pub BestWithin : Best → List ℕ → Type 0
+BestWithin (At k) t = k < length t
+BestWithin Nothing t = Unit {0}

@@ -7,14 +7,13 @@ use Prim.Native.Nat.{ℕ, _+_, _≤_, _<_}
 use native.Mathlib.Omega.{arith}
 use lib.ListN.{length, getD, set, length-set}
 use lib.Seq.{getD-set-other}
-use Rattle.search.specs.declared.Best.{Best}
-use Rattle.search.specs.declared.Best.the-variants.{At, Nothing}
-use Rattle.search.specs.declared.Query.{Query}
-use Rattle.search.specs.Scans.{Scanned, scanned, look, first, scanAll}
-use Rattle.search.specs.Search.{BestWithin}
-use Rattle.search.specs.Suits.{Suits}
+use Rattle.scans.specs.declared.Best.{Best}
+use Rattle.scans.specs.declared.Best.the-variants.{At, Nothing}
+use Rattle.scans.specs.declared.Query.{Query}
+use Rattle.scans.specs.Scans.{Scanned, scanned, look, first, scanAll, BestWithin}
+use Rattle.scans.specs.Suits.{Suits}
 use Rattle.geometry.specs.TestLaws.{same-or-not}
-use Rattle.search.specs.ScanLaws.{look-cases, looking-keeps}
+use Rattle.scans.specs.ScanLaws.{look-cases, looking-keeps}
 
 -- What is known of the places before `at`: the candidate's is one of them and suits; with no candidate, none suits.
 abbrev pub SoFar : List ℕ → Query → List ℕ → ℕ → Best → Type 0

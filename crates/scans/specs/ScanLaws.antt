@@ -17,13 +17,13 @@ use Rattle.slots.specs.SlotLaws.{same-kind-equal}
 use Rattle.slots.specs.declared.Node.{Node}
 use Rattle.slots.specs.declared.NodeKind.the-variants.{Free}
 use Rattle.lists.specs.Lists.{Bag, bag, removed, freeEntry}
-use Rattle.search.specs.declared.Scan.{Scan}
-use Rattle.search.specs.declared.Best.{Best}
-use Rattle.search.specs.declared.Best.the-variants.{Nothing}
-use Rattle.search.specs.declared.Query.{Query}
-use Rattle.search.specs.Scans.{better, scoreOf, passed, kept, ended, weighed, Scanned, scanned, entryAt, dropped, look, looking, Lookable, Ready}
-use Rattle.search.specs.Suits.{Suits}
-use Rattle.search.specs.Thinned.{Thinned, thinned-itself, thinned-twice, each-thinned, dead-removed}
+use Rattle.scans.specs.declared.Scan.{Scan}
+use Rattle.scans.specs.declared.Best.{Best}
+use Rattle.scans.specs.declared.Best.the-variants.{Nothing}
+use Rattle.scans.specs.declared.Query.{Query}
+use Rattle.scans.specs.Scans.{better, scoreOf, passed, kept, ended, weighed, Scanned, scanned, entryAt, dropped, look, looking, Lookable, Ready}
+use Rattle.scans.specs.Suits.{Suits}
+use Rattle.scans.specs.Thinned.{Thinned, thinned-itself, thinned-twice, each-thinned, dead-removed}
 
 -- The filled part of a scan's table.
 abbrev pub listIn : Scanned → Bag
