@@ -13,7 +13,7 @@ use lib.Dec.{eqb}
 use borrow.Author.Tests.{eqb-true, eqb-false}
 use Rattle.geometry.specs.Choice.{pick, pick-elim}
 use Rattle.geometry.specs.Buckets.{bucketOf}
-use Rattle.geometry.specs.Cuts.{widthOf, heightOf}
+use Rattle.geometry.specs.Rectangles.{widthOf, heightOf}
 use Rattle.geometry.specs.Sides.{setupOf}
 use Rattle.geometry.specs.declared.Bucket.{Bucket}
 use Rattle.geometry.specs.declared.Bucket.the-variants.{Small, Medium, Large}

@@ -7,7 +7,7 @@ use lib.ListN.{getD, set}
 use lib.Dec.{eqb, ltb}
 use Rattle.geometry.specs.Choice.{pick}
 use Rattle.geometry.specs.Buckets.{bucketOf, rank}
-use Rattle.geometry.specs.Cuts.{emptyRect, widthOf, heightOf}
+use Rattle.geometry.specs.Rectangles.{emptyRect, widthOf, heightOf}
 use Rattle.geometry.specs.declared.Bucket.{Bucket}
 use Rattle.geometry.specs.declared.Rectangle.{Rectangle}
 use Rattle.slots.specs.Slots.{slot, isNone, nodeAt}

@@ -6,7 +6,7 @@ use mathlib.Core.List.{List}
 use Prim.Native.Nat.{ℕ, _+_, _-_, _≤_, _<_}
 use native.Mathlib.Omega.{arith}
 use lib.ListN.{length, getD}
-use Rattle.geometry.specs.Cuts.{emptyRect}
+use Rattle.geometry.specs.Rectangles.{emptyRect}
 use Rattle.geometry.specs.declared.Rectangle.{Rectangle}
 use Rattle.slots.specs.Slots as slots
 use Rattle.slots.specs.Slots.{isNone, sameKind, nodeAt, HasSlot}

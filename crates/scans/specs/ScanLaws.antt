@@ -10,7 +10,7 @@ use lib.ListN.{length}
 use lib.Dec.{eqb, ltb}
 use borrow.Author.Tests.{ltb-true, ltb-false, le-ltb, lt-ltb}
 use Rattle.geometry.specs.Choice.{pick-elim}
-use Rattle.geometry.specs.Cuts.{widthOf, heightOf}
+use Rattle.geometry.specs.Rectangles.{widthOf, heightOf}
 use Rattle.geometry.specs.declared.Rectangle.{Rectangle}
 use Rattle.slots.specs.Slots.{slot, nodeAt, sameKind}
 use Rattle.slots.specs.SlotLaws.{same-kind-equal}

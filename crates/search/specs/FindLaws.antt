@@ -6,7 +6,7 @@ use mathlib.Core.List.{List}
 use Prim.Native.Nat.{ℕ, _≤_, _<_}
 use native.Mathlib.Omega.{arith}
 use lib.ListN.{length}
-use Rattle.geometry.specs.Cuts.{widthOf, heightOf}
+use Rattle.geometry.specs.Rectangles.{widthOf, heightOf}
 use Rattle.geometry.specs.Buckets.{bucketOf, rank}
 use Rattle.geometry.specs.BucketLaws.{bucket-rises}
 use Rattle.geometry.specs.declared.Bucket.{Bucket}

@@ -12,7 +12,7 @@ use Rattle.geometry.specs.TestLaws.{and-true-each}
 use Rattle.geometry.specs.Sides.{natural, sheetSide, validSetup, setupOf}
 use Rattle.geometry.specs.SideLaws.{sheet-side}
 use Rattle.geometry.specs.Buckets.{bucketOf}
-use Rattle.geometry.specs.Cuts.{widthOf, heightOf}
+use Rattle.geometry.specs.Rectangles.{widthOf, heightOf}
 use Rattle.geometry.specs.declared.AllocatorOptions.{AllocatorOptions}
 use Rattle.geometry.specs.declared.Bucket.{Bucket}
 use Rattle.geometry.specs.declared.Bucket.the-variants.{Small, Medium, Large}

@@ -1,10 +1,10 @@
--- `geometry::cut_way` meets its contract: each answer rewrites with the comparison of the two areas that led there.
+-- `cuts::cut_way` meets its contract: each answer rewrites with the comparison of the two areas that led there.
 -- Assumes nothing.
 use borrow.Author.Tests.{lt-ltb, le-ltb}
-use Rattle.geometry.specs.Cuts.{cutWay}
+use Rattle.cuts.specs.Cuts.{cutWay}
 use borrow.Author.Needs.{needs}
-use Rattle.geometry.proofs.cut_way.Statement.{statement}
-use Rattle.geometry.proofs.cut_way.Tie as tie
+use Rattle.cuts.proofs.cut_way.Statement.{statement}
+use Rattle.cuts.proofs.cut_way.Tie as tie
 
 sub-area-compared : tie.Need-sub-area-compared
 sub-area-compared c = search needs

@@ -9,16 +9,17 @@ use native.Mathlib.Nat.{mul-pos, zero-mul, mul-zero}
 use native.Mathlib.Omega.{arith}
 use lib.Dec.{eqb, leb}
 use borrow.Author.Tests.{eqb-true, eqb-false, ltb-true, ltb-false, le-leb, lt-leb}
 use Rattle.geometry.specs.Choice.{pick-elim}
-use Rattle.geometry.specs.Cuts.{flip, noRect, widthOf, heightOf, emptyRect, FitsIn, atCorner, areaCompared, splitOf, leftoverOf, exactFit, cutWay, cutOf}
+use Rattle.geometry.specs.Rectangles.{flip, noRect, widthOf, heightOf, emptyRect}
+use Rattle.cuts.specs.Cuts.{FitsIn, atCorner, areaCompared, splitOf, leftoverOf, exactFit, cutWay, cutOf}
 use Rattle.geometry.specs.Measures.{covers, areaOf, span, start, end, along, Adds}
 use Rattle.geometry.specs.MeasureLaws.{covers-adds, area-adds, adds-nothing}
-use Rattle.geometry.specs.PieceLaws.{Spans, pieces-span, fits-along, along-positive, span-empty, Inside, pieces-inside, pieces-add}
+use Rattle.cuts.specs.PieceLaws.{Spans, pieces-span, fits-along, along-positive, span-empty, Inside, pieces-inside, pieces-add}
 use Rattle.geometry.specs.TestLaws.{and-true-each, and-false-one}
 use Rattle.geometry.specs.declared.Rectangle.{Rectangle}
 use Rattle.geometry.specs.declared.Orientation.{Orientation}
 use Rattle.geometry.specs.declared.Orientation.the-variants.{Vertical, Horizontal}
-use Rattle.geometry.specs.declared.Cut.{Cut}
+use Rattle.cuts.specs.declared.Cut.{Cut}
 
 -- All that is used of the area compared: it is above 0 exactly where both sides are.
 compared-positive : {u v : ℕ} → 0 < u → 0 < v → 0 < areaCompared u v

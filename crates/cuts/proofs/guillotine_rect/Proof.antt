@@ -1,10 +1,10 @@
--- `geometry::guillotine_rect` meets its contract: the answer is made of what each call ensures.
+-- `cuts::guillotine_rect` meets its contract: the answer is made of what each call ensures.
 -- Assumes nothing.
 use mathlib.Core.Path.{sym, _∙_}
-use Rattle.geometry.specs.Cuts.{cutOf}
+use Rattle.cuts.specs.Cuts.{cutOf}
 use borrow.Author.Needs.{needs}
-use Rattle.geometry.proofs.guillotine_rect.Statement.{statement}
-use Rattle.geometry.proofs.guillotine_rect.Tie as tie
+use Rattle.cuts.proofs.guillotine_rect.Statement.{statement}
+use Rattle.cuts.proofs.guillotine_rect.Tie as tie
 
 is-exact-requires : tie.Need-is-exact-requires
 is-exact-requires c κs = search needs

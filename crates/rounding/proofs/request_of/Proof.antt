@@ -1,14 +1,14 @@
--- `geometry::request_of` meets its contract: each answer rewrites with what the tests that led there say of the sides as they
+-- `rounding::request_of` meets its contract: each answer rewrites with what the tests that led there say of the sides as they
 -- arrived, and with what each call ensures.
 -- Assumes nothing.
 use mathlib.Core.Path.{_≡_}
 use borrow.Author.Needs.{needs}
 use borrow.Author.Tests.{eq-eqb, ne-eqb}
 use Rattle.geometry.specs.Sides.{natural}
-use Rattle.geometry.specs.Rounding.{bothRounded, requestOf}
+use Rattle.rounding.specs.Rounding.{bothRounded, requestOf}
 use Rattle.geometry.proofs.Signed.{natural-read}
-use Rattle.geometry.proofs.request_of.Statement.{statement}
-use Rattle.geometry.proofs.request_of.Tie as tie
+use Rattle.rounding.proofs.request_of.Statement.{statement}
+use Rattle.rounding.proofs.request_of.Tie as tie
 
 -- Both sides as they arrived.
 width-read : (c : tie.After-natural2) → c .before .before .natural .result ≡ natural (c .before .before .before .before .args .size .width)

@@ -1,8 +1,8 @@
--- `geometry::leftover_of` meets its contract: each answer is that of the orientation that was matched.
+-- `cuts::leftover_of` meets its contract: each answer is that of the orientation that was matched.
 -- Assumes nothing.
 use borrow.Author.Needs.{needs}
-use Rattle.geometry.proofs.leftover_of.Statement.{statement}
-use Rattle.geometry.proofs.leftover_of.Tie as tie
+use Rattle.cuts.proofs.leftover_of.Statement.{statement}
+use Rattle.cuts.proofs.leftover_of.Tie as tie
 
 enum-told : tie.Need-enum-told
 enum-told c = search needs

@@ -1,11 +1,11 @@
--- `geometry::area_compared` meets its contract: the product of two numbers of 32 bits has at most 64.
+-- `cuts::area_compared` meets its contract: the product of two numbers of 32 bits has at most 64.
 -- Assumes nothing.
-use Rattle.geometry.proofs.Product.{product-fits}
-use Rattle.geometry.specs.Cuts.{areaCompared}
+use Rattle.cuts.proofs.Product.{product-fits}
+use Rattle.cuts.specs.Cuts.{areaCompared}
 use mathlib.Core.Path.{refl}
 use borrow.Author.Needs.{needs}
-use Rattle.geometry.proofs.area_compared.Statement.{statement}
-use Rattle.geometry.proofs.area_compared.Tie as tie
+use Rattle.cuts.proofs.area_compared.Statement.{statement}
+use Rattle.cuts.proofs.area_compared.Tie as tie
 
 mul-result : tie.Need-mul-result
 mul-result c = record { fits = product-fits 32 (search needs) (search needs) }

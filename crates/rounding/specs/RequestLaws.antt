@@ -5,17 +5,17 @@ use mathlib.Core.Logic.{_↔_, _⊎_, inl, inr, ⊎-elim}
 use Prim.Native.Nat.{ℕ, _≤_, _<_}
 use native.Mathlib.Omega.{arith}
 use borrow.Author.Tests.{eqb-true, leb-true, leb-false}
 use Rattle.geometry.specs.Choice.{pick-elim}
 use Rattle.geometry.specs.Sides.{natural}
-use Rattle.geometry.specs.Rounding.{roundUp, rounded, bothRounded, requestOf}
-use Rattle.geometry.specs.RoundingLaws.{roundUp-up}
+use Rattle.rounding.specs.Rounding.{roundUp, rounded, bothRounded, requestOf}
+use Rattle.rounding.specs.RoundingLaws.{roundUp-up}
 use Rattle.geometry.specs.TestLaws.{or-true-one, or-false-each, above-zero}
 use Rattle.geometry.specs.declared.Size.{Size}
 use Rattle.geometry.specs.declared.Setup.{Setup}
 use Rattle.geometry.specs.declared.Extent.{Extent}
-use Rattle.geometry.specs.declared.Rounded.the-variants.{To, Over}
-use Rattle.geometry.specs.declared.Request.{Request}
-use Rattle.geometry.specs.declared.Request.the-variants.{Of, NotPositive, TooLarge}
+use Rattle.rounding.specs.declared.Rounded.the-variants.{To, Over}
+use Rattle.rounding.specs.declared.Request.{Request}
+use Rattle.rounding.specs.declared.Request.the-variants.{Of, NotPositive, TooLarge}
 
 -- A requested side, or 0 where it is negative.
 abbrev pub wide : Size → ℕ

@@ -6,8 +6,8 @@ use native.Mathlib.Nat.{mod-lt, div-add-mod', mul-mod-left, add-mul, one-mul, lt
 use native.Mathlib.Omega.{arith}
 use lib.Dec.{eqb}
 use borrow.Author.Tests.{eqb-true, eqb-false}
 use Rattle.geometry.specs.Choice.{pick-elim}
-use Rattle.geometry.specs.Rounding.{roundUp}
+use Rattle.rounding.specs.Rounding.{roundUp}
 
 -- What holds of the side where it is a multiple, and of the next multiple where it is not, holds of the side rounded up.
 roundUp-elim : (P : ℕ → Type 0) (a s : ℕ) → (s % a ≡ 0 → P s) → ((s % a ≡ 0 → ⊥) → P (s + (a - s % a))) → P (roundUp a s)

@@ -1,33 +1,14 @@
--- Rectangles, and the cut of a chosen rectangle W×H for a request w×h at its min corner.
+-- The cut of a chosen rectangle W×H for a request w×h at its min corner.
 -- Assumes nothing.
-use mathlib.Core.Bool.{Bool, _&&_, _||_}
+use mathlib.Core.Bool.{Bool, _&&_}
 use Prim.Native.Nat.{ℕ, _+_, _-_, _*_, _≤_}
-use lib.Dec.{eqb, leb, ltb}
+use lib.Dec.{eqb, ltb}
 use Rattle.geometry.specs.Choice.{pick}
+use Rattle.geometry.specs.Rectangles.{noRect, widthOf, heightOf}
 use Rattle.geometry.specs.declared.Rectangle.{Rectangle}
 use Rattle.geometry.specs.declared.Orientation.{Orientation}
 use Rattle.geometry.specs.declared.Orientation.the-variants.{Vertical, Horizontal}
-use Rattle.geometry.specs.declared.Cut.{Cut}
-
--- The other orientation.
-abbrev pub flip : Orientation → Orientation
-flip Vertical = Horizontal
-flip Horizontal = Vertical
-
--- The rectangle that stands for none.
-abbrev pub noRect : Rectangle
-noRect = record { x0 = 0; y0 = 0; x1 = 0; y1 = 0 }
-
--- Its sides, W and H.
-abbrev pub widthOf : Rectangle → ℕ
-widthOf r = r .x1 - r .x0
-
-abbrev pub heightOf : Rectangle → ℕ
-heightOf r = r .y1 - r .y0
-
--- No point lies in it.
-unfoldable pub emptyRect : Rectangle → Bool
-emptyRect r = leb (r .x1) (r .x0) || leb (r .y1) (r .y0)
+use Rattle.cuts.specs.declared.Cut.{Cut}
 
 -- The request fits into the rectangle.
 pub record FitsIn (r : Rectangle) (w h : ℕ) : Type 0 where

@@ -1,10 +1,10 @@
--- `geometry::is_exact` meets its contract: each answer rewrites with the test that led there.
+-- `cuts::is_exact` meets its contract: each answer rewrites with the test that led there.
 -- Assumes nothing.
 use borrow.Author.Tests.{eq-eqb, ne-eqb}
-use Rattle.geometry.specs.Cuts.{exactFit}
+use Rattle.cuts.specs.Cuts.{exactFit}
 use borrow.Author.Needs.{needs}
-use Rattle.geometry.proofs.is_exact.Statement.{statement}
-use Rattle.geometry.proofs.is_exact.Tie as tie
+use Rattle.cuts.proofs.is_exact.Statement.{statement}
+use Rattle.cuts.proofs.is_exact.Tie as tie
 
 sub-if1 : tie.Need-sub-if1
 sub-if1 c = search needs

@@ -3,14 +3,14 @@
 use mathlib.Core.Bool.{_||_}
 use Prim.Native.Nat.{ℕ, _+_, _-_, _%_}
 use lib.Dec.{eqb, leb}
 use Rattle.geometry.specs.Choice.{pick}
 use Rattle.geometry.specs.Sides.{natural}
 use Rattle.geometry.specs.declared.Size.{Size}
 use Rattle.geometry.specs.declared.Setup.{Setup}
-use Rattle.geometry.specs.declared.Rounded.{Rounded}
-use Rattle.geometry.specs.declared.Rounded.the-variants.{To, Over}
-use Rattle.geometry.specs.declared.Request.{Request}
-use Rattle.geometry.specs.declared.Request.the-variants.{Of, NotPositive, TooLarge}
+use Rattle.rounding.specs.declared.Rounded.{Rounded}
+use Rattle.rounding.specs.declared.Rounded.the-variants.{To, Over}
+use Rattle.rounding.specs.declared.Request.{Request}
+use Rattle.rounding.specs.declared.Request.the-variants.{Of, NotPositive, TooLarge}
 
 -- The least multiple of the alignment that is not below the side (`roundUp-multiple`, `roundUp-up`, `roundUp-least`).
 unfoldable pub roundUp : ℕ → ℕ → ℕ

@@ -8,12 +8,13 @@ use native.Mathlib.Omega.{arith}
 use lib.Dec.{leb}
 use borrow.Author.Needs.{needs}
 use borrow.Author.Tests.{lt-leb}
-use Rattle.geometry.specs.Cuts.{flip, emptyRect, FitsIn, atCorner, splitOf, leftoverOf}
+use Rattle.geometry.specs.Rectangles.{flip, emptyRect}
+use Rattle.cuts.specs.Cuts.{FitsIn, atCorner, splitOf, leftoverOf}
 use Rattle.geometry.specs.Measures.{span, start, end, along, Adds}
 use Rattle.geometry.specs.MeasureLaws.{adds-three}
 use Rattle.geometry.specs.declared.Rectangle.{Rectangle}
 use Rattle.geometry.specs.declared.Orientation.{Orientation}
 use Rattle.geometry.specs.declared.Orientation.the-variants.{Vertical, Horizontal}
 
 -- A rectangle that is cut, the request at its corner, the split and the leftover, as spans of the cut's orientation.
 pub record Spans (o : Orientation) (r : Rectangle) (w h : ℕ) (split leftover : Rectangle) : Type 0 where

@@ -1,12 +1,12 @@
--- `geometry::adjust_size` meets its contract: a remainder is below the alignment, so neither the difference nor the sum wraps.
+-- `rounding::adjust_size` meets its contract: a remainder is below the alignment, so neither the difference nor the sum wraps.
 -- Assumes nothing.
 use native.Mathlib.Omega.{arith}
 use native.Mathlib.Nat.{mod-lt}
 use borrow.Author.Tests.{eq-eqb, ne-eqb, le-leb, lt-leb}
-use Rattle.geometry.specs.Rounding.{roundUp, rounded}
+use Rattle.rounding.specs.Rounding.{roundUp, rounded}
 use borrow.Author.Needs.{needs}
-use Rattle.geometry.proofs.adjust_size.Statement.{statement}
-use Rattle.geometry.proofs.adjust_size.Tie as tie
+use Rattle.rounding.proofs.adjust_size.Statement.{statement}
+use Rattle.rounding.proofs.adjust_size.Tie as tie
 
 rem-rem : tie.Need-rem-rem
 rem-rem c = search needs
