@@ -18,7 +18,7 @@ use Rattle.steps.specs.State.{State, listsOf}
 use Rattle.sound.specs.Sound.{Counted, Listed, sheetOf}
 use Rattle.links.specs.Links.{spareWalk}
 use Rattle.links.specs.SpareLaws.{spare-walk-yes, spare-walk-no}
-use Rattle.starts.specs.StartWhen.{LentOf}
+use Rattle.lent.specs.Lent.{LentOf}
 use Rattle.audit.specs.Tests.{firstFrom, listedAt}
 use Rattle.audit.specs.Audited as audited
 use Rattle.audit.specs.Audited.{Rule2, lowestBad, numbersOf, entriesFound, firstsOf, hasEntry, Audited}

@@ -18,7 +18,7 @@ use Rattle.steps.specs.declared.Head.{Head}
 use Rattle.sound.specs.View.{linkOf, seen}
 use Rattle.sound.specs.Sound.{Counted, SpareChain, Linked, Merged, Placed, Listed, LastTrue, Sound, ownBucket}
 use Rattle.links.specs.Links.{firstsTo, linksAt, mergedAt}
-use Rattle.starts.specs.StartWhen.{LentOf}
+use Rattle.lent.specs.Lent.{LentOf}
 use Rattle.audit.specs.Tests.{firstFrom, entryBelow, filledAt, notLastAt}
 use Rattle.audit.specs.declared.Verdict.{Verdict}
 

@@ -18,7 +18,7 @@ use Rattle.steps.specs.declared.Head.{Head}
 use Rattle.sound.specs.Sound.{Counted}
 use Rattle.links.specs.Links.{Table}
 use Rattle.links.specs.TestLaws.{Says, both-say, not-say, less-says, equal-says}
-use Rattle.starts.specs.StartWhen.{LentOf}
+use Rattle.lent.specs.Lent.{LentOf}
 use Rattle.audit.specs.Tests.{firstFrom, entryBelow}
 use Rattle.audit.specs.FirstLaws.{lowest-breaks, lowest-all}
 use Rattle.audit.specs.Audited.{numbersHold, numbersOf, verdict, entryFound, entriesFound}

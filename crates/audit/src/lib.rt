@@ -19,7 +19,7 @@ ghost use Rattle.geometry.specs.Sides.{setupOf};
 ghost use Rattle.sound.specs.View.{seen};
 ghost use Rattle.sound.specs.Sound.{sheetOf};
 ghost use Rattle.steps.specs.State.{state};
-ghost use Rattle.starts.specs.Lent.{Lent};
+ghost use Rattle.lent.specs.Lent.{Lent};
 ghost use Rattle.links.specs.TestLaws.{Says};
 ghost use Rattle.audit.specs.LastLaws.{LastHolds};
 ghost use Rattle.audit.specs.Audited.{numbersHold, entryFound, entriesFound, firstsOf, Audited, Checked};
@@ -514,7 +514,7 @@ pub fn check(
 ) -> u32
     ensures { λ r. ⌜ Checked (state head (now (words .entry)) (now (generations .entry)) (now (small .entry)) (now (medium .entry)) (now (large .entry))) r ⌝ }
 {
-    if !starts::is_lent(
+    if !lent::is_lent(
         words.len(),
         generations.len(),
         small.len(),

@@ -1,8 +1,8 @@
 use native.Mathlib.Omega.{arith}
-use Rattle.starts.specs.StartLaws.{first-pushable, begun-started}
+use Rattle.sheets.specs.SheetLaws.{first-pushable, begun-started}
 use borrow.Author.Needs.{needs}
-use Rattle.starts.proofs.begin.Statement.{statement}
-use Rattle.starts.proofs.begin.Tie as tie
+use Rattle.sheets.proofs.begin.Statement.{statement}
+use Rattle.sheets.proofs.begin.Tie as tie
 
 setup-of-requires : tie.Need-setup-of-requires
 setup-of-requires c κs = search needs

@@ -7,7 +7,7 @@ use native.Mathlib.Omega.{arith}
 use lib.Dec.{eqb, leb}
 use borrow.Author.Tests.{eqb-true, eqb-false, leb-true, le-leb, eq-eqb, ne-eqb, not-true}
 use Rattle.geometry.specs.TestLaws.{and-true-each}
-use Rattle.starts.specs.Lent.{listLength, lentLengths, ListLent, Lent}
+use Rattle.lent.specs.Lent.{listLength, lentLengths, ListLent, Lent}
 
 list-lent : (g a : ℕ) → listLength g a ≡ true → ListLent g a
 unfolding listLength

@@ -1,9 +1,9 @@
 use mathlib.Core.Path.{sym, _∙_}
 use borrow.Author.Tests.{eq-eqb, ne-eqb, le-leb, lt-leb, not-true, not-false}
-use Rattle.starts.specs.Lent.{lentLengths}
+use Rattle.lent.specs.Lent.{lentLengths}
 use borrow.Author.Needs.{needs}
-use Rattle.starts.proofs.is_lent.Statement.{statement}
-use Rattle.starts.proofs.is_lent.Tie as tie
+use Rattle.lent.proofs.is_lent.Statement.{statement}
+use Rattle.lent.proofs.is_lent.Tie as tie
 
 returns : tie.Need-returns
 unfolding lentLengths

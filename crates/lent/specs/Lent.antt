@@ -35,3 +35,7 @@ pub record Lent (w g a b c : ℕ) : Type 0 where
   pub small : ListLent g a
   pub medium : ListLent g b
   pub large : ListLent g c
+
+-- The same of the tables of a state.
+abbrev pub LentOf : State → Type 0
+LentOf s = Lent (length (s .words)) (length (s .generations)) (length (s .small)) (length (s .medium)) (length (s .large))

@@ -1,7 +1,7 @@
 use borrow.Author.Tests.{le-leb, lt-leb}
-use Rattle.starts.specs.Lent.{listLength}
-use Rattle.starts.proofs.is_list_length.Statement.{statement}
-use Rattle.starts.proofs.is_list_length.Tie as tie
+use Rattle.lent.specs.Lent.{listLength}
+use Rattle.lent.proofs.is_list_length.Statement.{statement}
+use Rattle.lent.proofs.is_list_length.Tie as tie
 
 returns : tie.Need-returns
 unfolding listLength
