@@ -10,7 +10,8 @@ use lib.ListN.{length, take, replicate}
 use lib.Dec.{eqb, ltb, leb}
 use Rattle.geometry.specs.Choice.{pick}
 use Rattle.geometry.specs.Sides.{validSetup}
-use Rattle.slots.specs.Slots.{slot, nodeAt}
+use Rattle.slots.specs.Slots.{slot}
+use Rattle.table.specs.Table.{nodeAt}
 use Rattle.lists.specs.Lists.{Bag, occurs, freeEntry}
 use Rattle.buckets.specs.FreeLists.{Lists, listOf}
 use Rattle.steps.specs.State.{State, listsOf}

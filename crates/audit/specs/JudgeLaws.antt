@@ -10,7 +10,8 @@ use lib.ListN.{length}
 use borrow.Author.Tests.{not-true}
 use Rattle.geometry.specs.TestLaws.{same-or-not}
 use Rattle.geometry.specs.declared.Rectangle.{Rectangle}
-use Rattle.slots.specs.Slots.{slot, isNone, sameKind, nodeAt}
+use Rattle.slots.specs.Slots.{slot, isNone, sameKind}
+use Rattle.table.specs.Table.{nodeAt}
 use Rattle.slots.specs.declared.Node.{Node}
 use Rattle.slots.specs.declared.NodeKind.the-variants.{Container}
 use Rattle.steps.specs.Spares.{unusedBelow}

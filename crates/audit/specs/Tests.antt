@@ -10,7 +10,8 @@ use Rattle.geometry.specs.Buckets.{bucketOf, rank}
 use Rattle.geometry.specs.Rectangles.{emptyRect, widthOf, heightOf}
 use Rattle.geometry.specs.declared.Bucket.{Bucket}
 use Rattle.geometry.specs.declared.Rectangle.{Rectangle}
-use Rattle.slots.specs.Slots.{slot, isNone, nodeAt}
+use Rattle.slots.specs.Slots.{slot, isNone}
+use Rattle.table.specs.Table.{nodeAt}
 use Rattle.slots.specs.declared.NodeKind.{NodeKind}
 use Rattle.slots.specs.declared.NodeKind.the-variants.{Container, Alloc, Free, Unused}
 use Rattle.lists.specs.Lists.{freeEntry}

@@ -11,7 +11,8 @@ ghost use mathlib.Core.Path.{_≡_};
 ghost use Prim.Native.Nat.{_-_, _≤_, _<_};
 ghost use lib.ListN.{length};
 ghost use Rattle.geometry.specs.Buckets.{rank};
-ghost use Rattle.slots.specs.Slots.{slot, HasSlot};
+ghost use Rattle.slots.specs.Slots.{slot};
+ghost use Rattle.table.specs.Table.{HasSlot};
 ghost use Rattle.lists.specs.Lists.{bag, Each};
 ghost use Rattle.links.specs.Links.{Table};
 ghost use Rattle.buckets.specs.FreeLists.{lists};
@@ -97,7 +98,7 @@ fn filled_at(words: &[u32], i: AllocIndex) -> bool
     requires { ⌜ HasSlot (now words) i ⌝ }
     ensures { λ r. ⌜ r ≡ filledAt (now (words .entry)) (i .0) ⌝ }
 {
-    let node = slots::node_at(words, i);
+    let node = table::node_at(words, i);
     let kind = node.kind;
     let rect = node.rect;
     match kind {
@@ -113,7 +114,7 @@ fn listed_at(words: &[u32], marks: &[u8], i: AllocIndex) -> bool
     requires { ⌜ HasSlot (now words) i × (i .0 < length (now marks)) ⌝ }
     ensures { λ r. ⌜ r ≡ listedAt (now (words .entry)) (now (marks .entry)) (i .0) ⌝ }
 {
-    let node = slots::node_at(words, i);
+    let node = table::node_at(words, i);
     let kind = node.kind;
     if !slots::same_kind(kind, NodeKind::Free) {
         return true;
@@ -130,7 +131,7 @@ fn not_last_at(words: &[u32], n: u32, i: AllocIndex) -> bool
     if !links::is_live(words, n, i) {
         return true;
     }
-    let node = slots::node_at(words, i);
+    let node = table::node_at(words, i);
     let parent = node.parent;
     if !slots::is_none(parent) {
         return true;
@@ -196,7 +197,7 @@ fn mark_entry(words: &[u32], marks: &mut [u8], small: u32, large: u32, bucket: B
     requires { ⌜ HasSlot (now words) (slot x) × (x < length (now marks)) ⌝ }
     ensures { λ _. ⌜ now (marks .exit) ≡ marked (now (words .entry)) small large bucket x (now (marks .entry)) ⌝ }
 {
-    let node = slots::node_at(words, AllocIndex(x));
+    let node = table::node_at(words, AllocIndex(x));
     let kind = node.kind;
     let rect = node.rect;
     if !slots::same_kind(kind, NodeKind::Free) {
@@ -310,7 +311,7 @@ fn last_holds(words: &[u32], firsts: &[u32], n: u32, live: u32, i: AllocIndex) -
     requires { ⌜ LastReady (now words) (now firsts) n live (i .0) ⌝ }
     ensures { λ b. ⌜ Says b (LastHolds (seen (now (words .entry))) n (i .0)) ⌝ }
 {
-    let node = slots::node_at(words, i);
+    let node = table::node_at(words, i);
     let kind = node.kind;
     if !slots::same_kind(kind, NodeKind::Container) {
         return true;

@@ -7,7 +7,8 @@ use native.Mathlib.Omega.{arith}
 use native.Mathlib.Decide.{ℕ-discrete}
 use lib.ListN.{length, getD, length-set}
 use lib.Seq.{getD-set-same, getD-set-other}
-use Rattle.slots.specs.Slots.{slot, HasSlot}
+use Rattle.slots.specs.Slots.{slot}
+use Rattle.table.specs.Table.{HasSlot}
 use Rattle.lists.specs.Lists.{Bag, appended, removed, Each, Entries}
 
 -- Each step keeps the table's length.

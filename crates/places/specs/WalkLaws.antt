@@ -9,7 +9,8 @@ use lib.ListN.{length, getD}
 use Rattle.geometry.specs.Rectangles.{emptyRect}
 use Rattle.geometry.specs.declared.Rectangle.{Rectangle}
 use Rattle.slots.specs.Slots as slots
-use Rattle.slots.specs.Slots.{isNone, sameKind, nodeAt, HasSlot}
+use Rattle.slots.specs.Slots.{isNone, sameKind}
+use Rattle.table.specs.Table.{nodeAt, HasSlot}
 use Rattle.slots.specs.declared.Node.{Node}
 use Rattle.slots.specs.declared.NodeKind.{NodeKind}
 use Rattle.slots.specs.declared.NodeKind.the-variants.{Container, Alloc, Free, Unused}

@@ -127,7 +127,7 @@ pub fn place_of_slot(words: &[u32], firsts: &[u32], i: AllocIndex, left: u32) ->
     if left == 0 {
         return out_of_slots();
     }
-    let node = slots::node_at(words, i);
+    let node = table::node_at(words, i);
     let kind = node.kind;
     if slots::same_kind(kind, NodeKind::Container) {
         return place_of_container(words, firsts, i, left);
@@ -156,7 +156,7 @@ pub fn place_of_chain(words: &[u32], firsts: &[u32], i: AllocIndex, left: u32) -
     if !a.ended {
         return a;
     }
-    let node = slots::node_at(words, i);
+    let node = table::node_at(words, i);
     let next = node.next;
     if slots::is_none(next) {
         return a;

@@ -8,7 +8,8 @@ use lib.Dec.{ltb}
 use lib.ListN.{length}
 use borrow.Author.Tests.{lt-ltb, le-ltb, ltb-true, ltb-false}
 use Rattle.geometry.specs.Choice.{pick, pick-elim}
-use Rattle.slots.specs.Slots.{slot, HasSlot}
+use Rattle.slots.specs.Slots.{slot}
+use Rattle.table.specs.Table.{HasSlot}
 use Rattle.lists.specs.Lists.{Bag, appended, Each, Entries}
 use Rattle.pushes.specs.Pushes.{swept, pushed, Pushable}
 use Rattle.pushes.specs.RoomLaws.{room-after-sweep}

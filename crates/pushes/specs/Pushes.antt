@@ -6,7 +6,8 @@ use Prim.Native.Nat.{ℕ, zero, suc, _*_, _≤_}
 use lib.ListN.{length, getD, drop}
 use lib.Dec.{eqb, ltb}
 use Rattle.geometry.specs.Choice.{pick}
-use Rattle.slots.specs.Slots.{slot, HasSlot}
+use Rattle.slots.specs.Slots.{slot}
+use Rattle.table.specs.Table.{HasSlot}
 use Rattle.lists.specs.Lists.{Bag, bag, appended, occurs, freeEntry, Entries}
 
 -- A sweep for v keeps the entry at place k: it is of a Free slot, not the pushed one, and the first of that slot.

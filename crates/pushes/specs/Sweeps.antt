@@ -6,7 +6,8 @@ use Prim.Native.Nat.{ℕ, zero, suc, _+_, _<_}
 use lib.ListN.{length, getD, set}
 use lib.Dec.{eqb}
 use Rattle.geometry.specs.Choice.{pick}
-use Rattle.slots.specs.Slots.{slot, HasSlot}
+use Rattle.slots.specs.Slots.{slot}
+use Rattle.table.specs.Table.{HasSlot}
 use Rattle.lists.specs.Lists.{freeEntry}
 
 -- The table so far, the marks of the entries seen, and how many are kept.

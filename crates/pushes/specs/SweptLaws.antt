@@ -9,7 +9,8 @@ use native.Mathlib.Decide.{decLt}
 use lib.ListN.{length, getD, drop, length-append, length-drop, List·getD-append}
 use lib.Seq.{getD-at}
 use Rattle.geometry.specs.Choice.{pick-elim}
-use Rattle.slots.specs.Slots.{slot, HasSlot}
+use Rattle.slots.specs.Slots.{slot}
+use Rattle.table.specs.Table.{HasSlot}
 use Rattle.lists.specs.Lists.{Bag, Each, Entries}
 use Rattle.pushes.specs.Pushes.{keeps, keepers, swept}
 

@@ -20,7 +20,7 @@ fn is_kept(words: &[u32], marks: &[u8], x: u32, v: u32) -> bool
     if marks[at] != 0 {
         return false;
     }
-    let node = slots::node_at(words, AllocIndex(x));
+    let node = table::node_at(words, AllocIndex(x));
     let kind = node.kind;
     slots::same_kind(kind, NodeKind::Free)
 }

@@ -1,11 +1,11 @@
 // Tickets: taken apart and put together again.
 use crate::verdict::Verdict;
-use slots::AllocId;
+use tickets::AllocId;
 
 // Whether the slot and the generation of a ticket make that ticket.
 fn is_rebuilt(ticket: u32) -> bool {
     let id = AllocId(ticket);
-    let again = slots::alloc_id(slots::get_index(id), slots::get_generation(id));
+    let again = tickets::alloc_id(tickets::get_index(id), tickets::get_generation(id));
     again.0 == ticket
 }
 

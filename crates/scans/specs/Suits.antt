@@ -4,7 +4,8 @@ use mathlib.Core.Path.{_≡_}
 use mathlib.Core.List.{List}
 use Prim.Native.Nat.{ℕ, _≤_}
 use Rattle.geometry.specs.Rectangles.{widthOf, heightOf}
-use Rattle.slots.specs.Slots.{slot, nodeAt}
+use Rattle.slots.specs.Slots.{slot}
+use Rattle.table.specs.Table.{nodeAt}
 use Rattle.slots.specs.declared.NodeKind.the-variants.{Free}
 
 -- Slot x suits a request: it is Free, and its rectangle is as wide and as tall.

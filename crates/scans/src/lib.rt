@@ -111,7 +111,7 @@ fn look_at(words: &[u32], list: &mut [u32], s: Scan, q: Query) -> Scan
     let at = s.at;
     let len = s.len;
     let id = AllocIndex(list[at]);
-    let node = slots::node_at(words, id);
+    let node = table::node_at(words, id);
     let kind = node.kind;
     if slots::same_kind(kind, NodeKind::Free) {
         let rect = node.rect;

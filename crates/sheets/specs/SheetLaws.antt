@@ -12,9 +12,10 @@ use Rattle.geometry.specs.declared.Bucket.{Bucket}
 use Rattle.geometry.specs.declared.Bucket.the-variants.{Small, Medium, Large}
 use Rattle.geometry.specs.declared.Setup.{Setup}
 use Rattle.geometry.specs.declared.Size.{Size}
-use Rattle.slots.specs.Slots.{slot, none, HasSlot}
-use Rattle.slots.specs.SlotLaws.{length-stored}
-use Rattle.slots.specs.Stores.{stored, toNode}
+use Rattle.slots.specs.Slots.{slot, none}
+use Rattle.table.specs.Table.{HasSlot}
+use Rattle.table.specs.TableLaws.{length-stored}
+use Rattle.table.specs.Stores.{stored, toNode}
 use Rattle.slots.specs.declared.Node.{Node}
 use Rattle.lists.specs.Lists.{Bag, bag, appended, Entries}
 use Rattle.pushes.specs.Pushes.{Pushable}

@@ -7,7 +7,7 @@ use slots::NodeKind;
 ghost use mathlib.Core.Path.{_≡_};
 ghost use Prim.Native.Nat.{_*_, _≤_};
 ghost use lib.ListN.{length};
-ghost use Rattle.slots.specs.Slots.{HasSlot};
+ghost use Rattle.table.specs.Table.{HasSlot};
 ghost use Rattle.steps.specs.Spares.{stepped, fresh, newNode, freed, markUnused, unusedAt, unusedBelow, spareSlots, HasSpare};
 
 // What is kept beside the tables: the sheet and its options, the first slot of the top chain, the first
@@ -43,7 +43,7 @@ pub fn new_node(words: &[u32], generations: &mut [u8], head: Head) -> Taken
     let n = head.count;
     let mut after = head;
     if first.0 < n {
-        let node = slots::node_at(words, first);
+        let node = table::node_at(words, first);
         let next = node.next;
         let at = first.0 as usize;
         generations[at] = next_generation(generations[at]);
@@ -68,8 +68,8 @@ pub fn mark_node_unused(words: &mut [u32], head: Head, i: AllocIndex) -> Head
     ensures { λ r. ⌜ freed r (now (words .exit)) ≡ markUnused (now (words .entry)) head i ⌝ }
 {
     let spare = head.spare;
-    slots::set_kind(words, i, NodeKind::Unused);
-    slots::set_next(words, i, spare);
+    table::set_kind(words, i, NodeKind::Unused);
+    table::set_next(words, i, spare);
     let mut after = head;
     after.spare = i;
     after
@@ -80,7 +80,7 @@ fn unused_at(words: &[u32], i: AllocIndex) -> u32
     requires { ⌜ HasSlot (now words) i ⌝ }
     ensures { λ r. ⌜ (r ≡ unusedAt (now (words .entry)) (i .0)) × (r ≤ 1) ⌝ }
 {
-    let node = slots::node_at(words, i);
+    let node = table::node_at(words, i);
     let kind = node.kind;
     if slots::same_kind(kind, NodeKind::Unused) {
         return 1;

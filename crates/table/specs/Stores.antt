@@ -3,10 +3,11 @@
 use mathlib.Core.List.{List}
 use Prim.Native.Nat.{ℕ}
 use Rattle.geometry.specs.declared.Rectangle.{Rectangle}
-use Rattle.slots.specs.Slots.{word, setWord, codeOf, orientationOf}
+use Rattle.table.specs.Table.{word, setWord}
+use Rattle.slots.specs.Slots.{codeOf, orientationOf}
 use Rattle.slots.specs.declared.AllocIndex.{AllocIndex}
 use Rattle.slots.specs.declared.NodeKind.{NodeKind}
 use Rattle.slots.specs.declared.Node.{Node}
 
 -- A store: of a link, of the kind, of the rectangle, or of all.
 pub data Store : Type 0 where

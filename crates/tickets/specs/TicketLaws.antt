@@ -4,10 +4,10 @@ use mathlib.Core.Path.{_≡_, ap, _∙_}
 use Prim.Native.Nat.{ℕ, _+_, _*_, _%_, _/_, _<_}
 use native.Mathlib.Omega.{arith}
 use native.Mathlib.Nat.{mod-add-div', add-mul-mod-self-right, mod-eq-of-lt}
 use Rattle.slots.specs.Slots.{slot}
-use Rattle.slots.specs.Tickets.{ticketOf, slotOf, generationOf}
+use Rattle.tickets.specs.Tickets.{ticketOf, slotOf, generationOf}
 use Rattle.slots.specs.declared.AllocIndex.{AllocIndex}
-use Rattle.slots.specs.declared.AllocId.{AllocId}
+use Rattle.tickets.specs.declared.AllocId.{AllocId}
 
 abbrev ticket : ℕ → AllocId
 ticket n = record { 0 = n }

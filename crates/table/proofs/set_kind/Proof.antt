@@ -1,7 +1,7 @@
-use Rattle.slots.specs.Stores.{stored}
+use Rattle.table.specs.Stores.{stored}
 use borrow.Author.Needs.{needs}
-use Rattle.slots.proofs.set_kind.Statement.{statement}
-use Rattle.slots.proofs.set_kind.Tie as tie
+use Rattle.table.proofs.set_kind.Statement.{statement}
+use Rattle.table.proofs.set_kind.Tie as tie
 
 word-at-requires : tie.Need-word-at-requires
 word-at-requires c κs = search needs
@@ -20,7 +20,10 @@ same-length c = search needs
 
 returns : tie.Need-returns
 unfolding stored
-returns c = cc
+returns c =
+    let p = c .before .before in
+    let o = p .before .before .before in
+    rw (p .put-word .ensures, p .before .code-of .ensures, o .orientation-of .ensures, o .before .word-at .ensures)
 
 pub set-kind-spec : {M : Type 1} → statement M
 set-kind-spec =

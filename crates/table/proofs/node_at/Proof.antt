@@ -1,7 +1,7 @@
-use Rattle.slots.specs.Slots.{nodeAt}
+use Rattle.table.specs.Table.{nodeAt}
 use borrow.Author.Needs.{needs}
-use Rattle.slots.proofs.node_at.Statement.{statement}
-use Rattle.slots.proofs.node_at.Tie as tie
+use Rattle.table.proofs.node_at.Statement.{statement}
+use Rattle.table.proofs.node_at.Tie as tie
 
 word-at-requires : tie.Need-word-at-requires
 word-at-requires c κs = search needs
@@ -35,7 +35,10 @@ word-at-requires-8 c κs = search needs
 
 returns : tie.Need-returns
 unfolding nodeAt
-returns c = cc
+returns c =
+    let c4 = c .before .before .before .before in
+    let c1 = c4 .before .before .before .before .before in
+    rw (c .word-at8 .ensures, c .before .word-at7 .ensures, c .before .before .word-at6 .ensures, c .before .before .before .word-at5 .ensures, c4 .word-at4 .ensures, c4 .before .word-at3 .ensures, c4 .before .before .word-at2 .ensures, c4 .before .before .before .orientation-of .ensures, c4 .before .before .before .before .kind-of .ensures, c1 .word-at .ensures)
 
 pub node-at-spec : {M : Type 1} → statement M
 node-at-spec =

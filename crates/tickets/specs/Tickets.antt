@@ -1,9 +1,9 @@
 -- A ticket is slot + generation × 16,777,216.
 -- Assumes nothing.
 use Prim.Native.Nat.{ℕ, _+_, _*_, _%_, _/_}
 use Rattle.slots.specs.Slots.{slot}
 use Rattle.slots.specs.declared.AllocIndex.{AllocIndex}
-use Rattle.slots.specs.declared.AllocId.{AllocId}
+use Rattle.tickets.specs.declared.AllocId.{AllocId}
 
 -- The ticket of a slot and a generation.
 abbrev pub ticketOf : AllocIndex → ℕ → AllocId

@@ -1,7 +1,7 @@
-use Rattle.slots.specs.Slots.{word}
+use Rattle.table.specs.Table.{word}
 use borrow.Author.Needs.{needs}
-use Rattle.slots.proofs.word_at.Statement.{statement}
-use Rattle.slots.proofs.word_at.Tie as tie
+use Rattle.table.proofs.word_at.Statement.{statement}
+use Rattle.table.proofs.word_at.Tie as tie
 
 cast-at : tie.Need-cast-at
 cast-at c = search needs

@@ -1,7 +1,7 @@
-use Rattle.slots.specs.Slots.{setWord}
+use Rattle.table.specs.Table.{setWord}
 use borrow.Author.Needs.{needs}
-use Rattle.slots.proofs.put_word.Statement.{statement}
-use Rattle.slots.proofs.put_word.Tie as tie
+use Rattle.table.proofs.put_word.Statement.{statement}
+use Rattle.table.proofs.put_word.Tie as tie
 
 cast-at : tie.Need-cast-at
 cast-at c = search needs
