@@ -10,7 +10,7 @@ use borrow.Author.Tests.{ne-eqb}
 use Rattle.geometry.specs.declared.Bucket.{Bucket}
 use Rattle.geometry.specs.declared.Bucket.the-variants.{Small, Medium, Large}
 use Rattle.lists.specs.Lists.{Bag, removed, firstOf, Each}
-use Rattle.buckets.specs.FreeLists.{Lists, listOf, withList, Within, firstIn, removedFrom, takenOut, forgottenIn, forgotten}
+use Rattle.buckets.specs.FreeLists.{Lists, listOf, withList, Within, firstIn, removedFrom, entryOr, entryIn, entryOf, takenOut, forgotten}
 use Rattle.lists.specs.Counts.{holds, occurrences}
 use Rattle.lists.specs.CountLaws.{count-none}
 use Rattle.lists.specs.FirstLaws.{first-holds, first-absent}
@@ -19,21 +19,23 @@ use Rattle.lists.specs.OccurrenceLaws.{removed-one, removed-others}
 use Rattle.buckets.specs.FreeListLaws.{withList-elim, removedFrom-within}
 use Rattle.lists.specs.declared.Found.{Found}
 use Rattle.lists.specs.declared.Found.the-variants.{At, Nothing}
+use Rattle.buckets.specs.declared.Entry.{Entry}
+use Rattle.buckets.specs.declared.Entry.the-variants.{In, Nowhere}
 
--- A bucket is looked at, with what was found there: the entry is taken out, or the next buckets are looked at.
-module _ (v : ℕ) (b : Bucket) (bs : List Bucket) (l m : Lists) (f : Found) (e : f ≡ firstIn v b l) where
-  pub forget-here : (k : ℕ) → f ≡ At k → m ≡ removedFrom b k l → m ≡ forgottenIn v (b ∷ bs) l
-  unfolding forgottenIn
-  forget-here k q r = rw (← e, q) r
+-- A bucket is looked at, with what was found there: the entry is there, or the next buckets are looked at.
+module _ (v : ℕ) (b : Bucket) (bs : List Bucket) (l : Lists) (f : Found) (e : f ≡ firstIn v b l) where
+  pub entry-here : (k : ℕ) → f ≡ At k → In b k ≡ entryIn v (b ∷ bs) l
+  unfolding entryIn
+  entry-here k q = rw (← e, q)
 
-  pub forget-on : f ≡ Nothing → m ≡ forgottenIn v bs l → m ≡ forgottenIn v (b ∷ bs) l
-  unfolding forgottenIn
-  forget-on q r = rw (← e, q) r
+  pub entry-on : (r : Entry) → f ≡ Nothing → r ≡ entryIn v bs l → r ≡ entryIn v (b ∷ bs) l
+  unfolding entryIn
+  entry-on r q h = rw (← e, q) h
 
--- With no bucket left nothing changes.
-pub forget-none : (v : ℕ) (l : Lists) → l ≡ forgottenIn v [] l
-unfolding forgottenIn
-forget-none v l = refl
+-- With no bucket left there is none.
+pub entry-none : (v : ℕ) (l : Lists) → Nowhere ≡ entryIn v [] l
+unfolding entryIn
+entry-none v l = refl
 
 -- What forgetting v makes of the lists: v stands in none and nothing changes, or one of its entries is taken out.
 pub data Forgets (v : ℕ) (l : Lists) : Lists → Type 0 where
@@ -47,31 +49,60 @@ none-found v b e =
     (λ j l. ne-eqb (getD (b .table) j 0) v (first-absent (b .table) v 0 (b .len) e j (omega arith) (omega arith)))
 
 -- A bucket is one of the list.
-abbrev In : Bucket → List Bucket → Type 0
-In b [] = ⊥
-In b (c ∷ cs) = (b ≡ c) ⊎ In b cs
+abbrev Among : Bucket → List Bucket → Type 0
+Among b [] = ⊥
+Among b (c ∷ cs) = (b ≡ c) ⊎ Among b cs
 
 -- The buckets still to be looked at, where each other one has no entry of v.
-forgets-in : (v : ℕ) (l : Lists) (bs : List Bucket) → ((b : Bucket) → (occurrences v (listOf b l) ≡ 0) ⊎ In b bs) → Forgets v l (forgottenIn v bs l)
-unfolding forgottenIn
+forgets-in : (v : ℕ) (l : Lists) (bs : List Bucket) → ((b : Bucket) → (occurrences v (listOf b l) ≡ 0) ⊎ Among b bs) → Forgets v l (takenOut (entryIn v bs l) l)
+unfolding entryIn
 forgets-in v l [] h = nowhere (λ b. ⊎-elim (λ e. e) (λ n. absurd n) (h b))
 forgets-in v l (b ∷ bs) h = go (firstIn v b l) refl (forgets-in v l bs)
   where
-    go : (f : Found) → firstIn v b l ≡ f → (((c : Bucket) → (occurrences v (listOf c l) ≡ 0) ⊎ In c bs) → Forgets v l (forgottenIn v bs l))
-        → Forgets v l (takenOut f b l (forgottenIn v bs l))
+    go : (f : Found) → firstIn v b l ≡ f
+        → (((c : Bucket) → (occurrences v (listOf c l) ≡ 0) ⊎ Among c bs) → Forgets v l (takenOut (entryIn v bs l) l))
+        → Forgets v l (takenOut (entryOr f b (entryIn v bs l)) l)
     go (At k) e r =
         let g = first-holds (listOf b l .table) v 0 (listOf b l .len) k e in
         takes b k (omega (arith, g .0)) (g .1)
     go Nothing e r = r (λ c. ⊎-elim (λ z. inl z) (⊎-elim (λ q. inl (rw q (none-found v (listOf b l) e))) (λ i. inr i)) (h c))
 
-every : (b : Bucket) → In b (Small ∷ Medium ∷ Large ∷ [])
+-- An entry found is at a filled place.
+entry-in : (v : ℕ) (l : Lists) (bs : List Bucket) (b : Bucket) (k : ℕ) → In b k ≡ entryIn v bs l → k < listOf b l .len
+unfolding entryIn
+entry-in v l [] b k = λ e. absurd (let z : _≡_ {A = ℕ} 0 1 = cc in omega arith)
+entry-in v l (c ∷ bs) b k = go (firstIn v c l) refl (entry-in v l bs b k)
+  where
+    go : (f : Found) → firstIn v c l ≡ f → (In b k ≡ entryIn v bs l → k < listOf b l .len) → In b k ≡ entryOr f c (entryIn v bs l) → k < listOf b l .len
+    go (At j) e r q =
+        let g = first-holds (listOf c l .table) v 0 (listOf c l .len) j e in
+        let x : b ≡ c = cc in
+        let y : k ≡ j = cc in
+        rw (x, y) (omega (arith, g .0))
+    go Nothing e r q = r q
+
+pub entry-within : (v : ℕ) (l : Lists) (f : Entry) (b : Bucket) (k : ℕ) → f ≡ entryOf v l → f ≡ In b k → k < listOf b l .len
+unfolding entryOf
+entry-within v l f b k e q = entry-in v l (Small ∷ Medium ∷ Large ∷ []) b k (sym q ∙ e)
+
+-- With what was found, the entry is taken out, or nothing changes.
+module _ (v : ℕ) (l m : Lists) (f : Entry) (e : f ≡ entryOf v l) where
+  pub forget-entry : (b : Bucket) (k : ℕ) → f ≡ In b k → m ≡ removedFrom b k l → m ≡ forgotten v l
+  unfolding forgotten
+  forget-entry b k q r = rw (← e, q) r
+
+  pub forget-nothing : f ≡ Nowhere → m ≡ l → m ≡ forgotten v l
+  unfolding forgotten
+  forget-nothing q r = rw (← e, q) r
+
+every : (b : Bucket) → Among b (Small ∷ Medium ∷ Large ∷ [])
 every Small = inl refl
 every Medium = inr (inl refl)
 every Large = inr (inr (inl refl))
 
 -- THE LAW: this is what `forgotten` does.
 pub forgets : (v : ℕ) (l : Lists) → Forgets v l (forgotten v l)
-unfolding forgotten
+unfolding forgotten entryOf
 forgets v l = forgets-in v l (Small ∷ Medium ∷ Large ∷ []) (λ b. inr (every b))
 
 -- What holds of the lists where v stands in none, and with any one entry of v taken out, holds of the lists after forgetting v.

@@ -10,6 +10,8 @@ use Rattle.pushes.specs.Pushes.{pushed}
 use Rattle.buckets.specs.declared.Lengths.{Lengths}
 use Rattle.lists.specs.declared.Found.{Found}
 use Rattle.lists.specs.declared.Found.the-variants.{At, Nothing}
+use Rattle.buckets.specs.declared.Entry.{Entry}
+use Rattle.buckets.specs.declared.Entry.the-variants.{In, Nowhere}
 
 pub record Lists : Type 0 where
   pub small : Bag
@@ -46,16 +48,25 @@ removedFrom b k l = withList b (removed (listOf b l) k) l
 abbrev pub firstIn : ℕ → Bucket → Lists → Found
 firstIn v b l = firstOf (listOf b l .table) v 0 (listOf b l .len)
 
--- The entry found is taken out; else the lists are as `other` says.
-abbrev pub takenOut : Found → Bucket → Lists → Lists → Lists
-takenOut (At k) b l other = removedFrom b k l
-takenOut Nothing b l other = other
+-- The entry found, else another one.
+abbrev pub entryOr : Found → Bucket → Entry → Entry
+entryOr (At k) b other = In b k
+entryOr Nothing b other = other
 
--- The first occurrence of v is taken out, the buckets looked at in order.
-unfoldable pub forgottenIn : ℕ → List Bucket → Lists → Lists
-forgottenIn v [] l = l
-forgottenIn v (b ∷ bs) l = takenOut (firstIn v b l) b l (forgottenIn v bs l)
+-- The first entry of v, the buckets looked at in order.
+unfoldable pub entryIn : ℕ → List Bucket → Lists → Entry
+entryIn v [] l = Nowhere
+entryIn v (b ∷ bs) l = entryOr (firstIn v b l) b (entryIn v bs l)
 
--- First occurrence, buckets small to large, swap-removed.
+-- First occurrence, buckets small to large,
+unfoldable pub entryOf : ℕ → Lists → Entry
+entryOf v l = entryIn v (Small ∷ Medium ∷ Large ∷ []) l
+
+-- An entry taken out.
+abbrev pub takenOut : Entry → Lists → Lists
+takenOut (In b k) l = removedFrom b k l
+takenOut Nowhere l = l
+
+-- swap-removed.
 unfoldable pub forgotten : ℕ → Lists → Lists
-forgotten v l = forgottenIn v (Small ∷ Medium ∷ Large ∷ []) l
+forgotten v l = takenOut (entryOf v l) l

@@ -4,7 +4,7 @@ use lists::Found;
 ghost use mathlib.Core.Path.{_≡_};
 ghost use Prim.Native.Nat.{_<_};
 ghost use Rattle.pushes.specs.Pushes.{Pushable};
-ghost use Rattle.buckets.specs.FreeLists.{lists, listOf, pushedTo, removedFrom, firstIn, forgotten, Within};
+ghost use Rattle.buckets.specs.FreeLists.{lists, listOf, pushedTo, removedFrom, firstIn, entryOf, forgotten, Within};
 
 // How many places of each bucket's table are filled.
 pub struct Lengths {
@@ -87,6 +87,29 @@ fn first_in(
     }
 }
 
+// An entry of a slot: its bucket, and its place in that bucket's list.
+pub enum Entry {
+    In(Bucket, usize),
+    Nowhere,
+}
+
+// The first entry of v, the buckets looked at from small to large.
+fn entry_of(small: &[u32], medium: &[u32], large: &[u32], lengths: Lengths, v: u32) -> Entry
+    requires { ⌜ Within (lists lengths (now small) (now medium) (now large)) ⌝ }
+    ensures { λ r. ⌜ r ≡ entryOf v (lists lengths (now (small .entry)) (now (medium .entry)) (now (large .entry))) ⌝ }
+{
+    if let Found::At(k) = first_in(small, medium, large, lengths, Bucket::Small, v) {
+        return Entry::In(Bucket::Small, k);
+    }
+    if let Found::At(k) = first_in(small, medium, large, lengths, Bucket::Medium, v) {
+        return Entry::In(Bucket::Medium, k);
+    }
+    if let Found::At(k) = first_in(small, medium, large, lengths, Bucket::Large, v) {
+        return Entry::In(Bucket::Large, k);
+    }
+    Entry::Nowhere
+}
+
 // Takes the first occurrence of v out, the buckets looked at from small to large.
 pub fn forget(
     small: &mut [u32],
@@ -98,14 +121,8 @@ pub fn forget(
     requires { ⌜ Within (lists lengths (now small) (now medium) (now large)) ⌝ }
     ensures { λ r. ⌜ lists r (now (small .exit)) (now (medium .exit)) (now (large .exit)) ≡ forgotten v (lists lengths (now (small .entry)) (now (medium .entry)) (now (large .entry))) ⌝ }
 {
-    if let Found::At(k) = first_in(small, medium, large, lengths, Bucket::Small, v) {
-        return remove_from(small, medium, large, lengths, Bucket::Small, k);
+    match entry_of(small, medium, large, lengths, v) {
+        Entry::In(bucket, k) => remove_from(small, medium, large, lengths, bucket, k),
+        Entry::Nowhere => lengths,
     }
-    if let Found::At(k) = first_in(small, medium, large, lengths, Bucket::Medium, v) {
-        return remove_from(small, medium, large, lengths, Bucket::Medium, k);
-    }
-    if let Found::At(k) = first_in(small, medium, large, lengths, Bucket::Large, v) {
-        return remove_from(small, medium, large, lengths, Bucket::Large, k);
-    }
-    lengths
 }

@@ -4,9 +4,9 @@
 mod agree;
 mod calls;
 mod leaves;
+mod rebuilt;
 mod report;
 mod take;
-mod tickets;
 mod told;
 mod verdict;
 

@@ -3,7 +3,7 @@
 use crate::agree;
 use crate::calls;
 use crate::leaves;
-use crate::tickets;
+use crate::rebuilt;
 use crate::told;
 use crate::verdict;
 use crate::verdict::Verdict;
@@ -135,8 +135,8 @@ fn open(
 // What is found of the line of a call that is not replayed yet.
 fn ticket(line: &[u32; 128]) -> Verdict {
     match line[0] {
-        2 => tickets::allocate(line),
-        3 => tickets::deallocate(line),
+        2 => rebuilt::allocate(line),
+        3 => rebuilt::deallocate(line),
         _ => Verdict::Later,
     }
 }

@@ -1,12 +1,12 @@
--- `replay::tickets::is_rebuilt` is safe: the slot that a ticket names is below 16,777,216, as the remainder by it.
+-- `replay::rebuilt::is_rebuilt` is safe: the slot that a ticket names is below 16,777,216, as the remainder by it.
 -- Assumes nothing.
 use mathlib.Core.Path.{ap}
 use native.Mathlib.Nat.{mod-lt}
 use native.Mathlib.Omega.{arith}
 use borrow.Author.Needs.{needs}
 use Rattle.slots.specs.declared.AllocIndex.{AllocIndex}
-use Rattle.replay.proofs.tickets.is_rebuilt.Statement.{statement}
-use Rattle.replay.proofs.tickets.is_rebuilt.Tie as tie
+use Rattle.replay.proofs.rebuilt.is_rebuilt.Statement.{statement}
+use Rattle.replay.proofs.rebuilt.is_rebuilt.Tie as tie
 
 get-index-requires : tie.Need-get-index-requires
 get-index-requires c κs = search needs
