@@ -16,11 +16,12 @@ use Rattle.slots.specs.declared.AllocIndex.{AllocIndex}
 use Rattle.buckets.specs.FreeLists.{Lists, listOf, withList}
 use Rattle.scans.specs.declared.Best.{Best}
 use Rattle.scans.specs.declared.Best.the-variants as best
-use Rattle.search.specs.declared.Chosen.{Chosen}
-use Rattle.search.specs.declared.Chosen.the-variants.{At, Nothing}
+use Rattle.choices.specs.declared.Chosen.{Chosen}
+use Rattle.choices.specs.declared.Chosen.the-variants.{At, Nothing}
 use Rattle.scans.specs.declared.Query.{Query}
 use Rattle.scans.specs.Scans.{Scanned}
-use Rattle.search.specs.Search.{chosenOf, scanBucket, Searched, searchOne, isLarge, higher, settled, searchUp, Searchable}
+use Rattle.choices.specs.Choices.{chosenOf, scanBucket, Searched, searchOne, isLarge, higher, settled, Searchable}
+use Rattle.search.specs.Search.{searchUp}
 use Rattle.scans.specs.Suits.{Suits}
 use Rattle.geometry.specs.TestLaws.{same-or-not}
 use Rattle.lists.specs.Counts.{occurrences}
@@ -29,7 +30,7 @@ use Rattle.buckets.specs.FreeListLaws.{listOf-withList-same}
 use Rattle.scans.specs.Thinned.{Thinned, thinned-twice}
 use Rattle.scans.specs.ScanLaws.{listIn, looking-ends}
 use Rattle.scans.specs.Candidates.{Scanning, SoFar, scan-scans}
-use Rattle.search.specs.SearchLaws.{one-thins, one-searchable}
+use Rattle.choices.specs.ChoiceLaws.{one-thins, one-searchable}
 
 -- What is known of the slot that a search of some buckets chose: its entry's place, and that it suits.
 pub record Chose (w : List ℕ) (q : Query) (Among : Bucket → Type 0) (l : Lists) (i : AllocIndex) (b : Bucket) (k : ℕ) : Type 0 where

@@ -18,14 +18,15 @@ use Rattle.slots.specs.declared.AllocIndex.{AllocIndex}
 use Rattle.slots.specs.declared.NodeKind.the-variants.{Free}
 use Rattle.lists.specs.Lists.{freeEntry, Each}
 use Rattle.buckets.specs.FreeLists.{Lists, listOf}
-use Rattle.search.specs.declared.Chosen.{Chosen}
-use Rattle.search.specs.declared.Chosen.the-variants.{At, Nothing}
+use Rattle.choices.specs.declared.Chosen.{Chosen}
+use Rattle.choices.specs.declared.Chosen.the-variants.{At, Nothing}
 use Rattle.scans.specs.Scans.{Lookable}
-use Rattle.search.specs.Search.{Searched, queryOf, findSuitable, Searchable}
+use Rattle.choices.specs.Choices.{Searched, Searchable}
+use Rattle.search.specs.Search.{queryOf, findSuitable}
 use Rattle.scans.specs.Suits.{Suits}
 use Rattle.lists.specs.Counts.{occurrences}
 use Rattle.scans.specs.Thinned.{Thinned, each-thinned}
-use Rattle.search.specs.SearchLaws.{searchable-thinned}
+use Rattle.choices.specs.ChoiceLaws.{searchable-thinned}
 use Rattle.search.specs.Answers.{Chose, Answered, up-thins, up-answers}
 
 -- The bucket of a width and a height, by the thresholds of a setup.

@@ -2,9 +2,9 @@
 -- Assumes nothing.
 use borrow.Author.Needs.{needs}
 use Rattle.geometry.specs.declared.Bucket.the-variants.{Small, Medium, Large}
-use Rattle.search.specs.SearchLaws.{one-searched}
-use Rattle.search.proofs.search_one.Statement.{statement}
-use Rattle.search.proofs.search_one.Tie as tie
+use Rattle.choices.specs.ChoiceLaws.{one-searched}
+use Rattle.choices.proofs.search_one.Statement.{statement}
+use Rattle.choices.proofs.search_one.Tie as tie
 
 enum-told : tie.Need-enum-told
 enum-told c = search needs

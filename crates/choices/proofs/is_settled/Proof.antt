@@ -1,8 +1,8 @@
 -- `is_settled` is true with a choice, and else in the large bucket.
 -- Assumes nothing.
 use borrow.Author.Needs.{needs}
-use Rattle.search.proofs.is_settled.Statement.{statement}
-use Rattle.search.proofs.is_settled.Tie as tie
+use Rattle.choices.proofs.is_settled.Statement.{statement}
+use Rattle.choices.proofs.is_settled.Tie as tie
 
 enum-told : tie.Need-enum-told
 enum-told c = search needs

@@ -1,9 +1,9 @@
 -- `scan_bucket` is a scan and the answer read off it.
 -- Assumes nothing.
 use borrow.Author.Needs.{needs}
-use Rattle.search.specs.SearchLaws.{scan-best, bucket-scanned}
-use Rattle.search.proofs.scan_bucket.Statement.{statement}
-use Rattle.search.proofs.scan_bucket.Tie as tie
+use Rattle.choices.specs.ChoiceLaws.{scan-best, bucket-scanned}
+use Rattle.choices.proofs.scan_bucket.Statement.{statement}
+use Rattle.choices.proofs.scan_bucket.Tie as tie
 
 scan-list-requires : tie.Need-scan-list-requires
 scan-list-requires c κs = search needs

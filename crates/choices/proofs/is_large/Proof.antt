@@ -1,8 +1,8 @@
--- `higher` is the bucket above, case by case.
+-- `is_large` tells the large bucket from the others.
 -- Assumes nothing.
 use borrow.Author.Needs.{needs}
-use Rattle.search.proofs.higher.Statement.{statement}
-use Rattle.search.proofs.higher.Tie as tie
+use Rattle.choices.proofs.is_large.Statement.{statement}
+use Rattle.choices.proofs.is_large.Tie as tie
 
 enum-told : tie.Need-enum-told
 enum-told c = search needs
@@ -22,5 +22,5 @@ returns-2 c = search needs
 returns-3 : tie.Need-returns-3
 returns-3 c = search needs
 
-pub higher-spec : {M : Type 1} → statement M
-higher-spec = tie.close (tie.spec enum-told enum-told-2 enum-told-3 returns returns-2 returns-3)
+pub is-large-spec : {M : Type 1} → statement M
+is-large-spec = tie.close (tie.spec enum-told enum-told-2 enum-told-3 returns returns-2 returns-3)

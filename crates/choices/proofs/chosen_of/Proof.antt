@@ -1,8 +1,8 @@
 -- `chosen_of` reads the best candidate's place, which is in the table.
 -- Assumes nothing.
 use borrow.Author.Needs.{needs}
-use Rattle.search.proofs.chosen_of.Statement.{statement}
-use Rattle.search.proofs.chosen_of.Tie as tie
+use Rattle.choices.proofs.chosen_of.Statement.{statement}
+use Rattle.choices.proofs.chosen_of.Tie as tie
 
 enum-known-best : tie.Need-enum-known-best
 enum-known-best c = search needs
