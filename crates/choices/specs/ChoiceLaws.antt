@@ -7,11 +7,11 @@ use Rattle.geometry.specs.declared.Bucket.{Bucket}
 use Rattle.lists.specs.Lists.{Bag}
 use Rattle.buckets.specs.FreeLists.{Lists, listOf, withList}
 use Rattle.buckets.specs.FreeListLaws.{withList-elim}
-use Rattle.scans.specs.Scans.{Scanned, scanned, first, scanAll, BestWithin, Ready}
-use Rattle.scans.specs.Thinned.{Thinned, thinned-itself}
-use Rattle.scans.specs.ScanLaws.{listIn, ready-thinned, looking-thins}
-use Rattle.scans.specs.Candidates.{scan-scans, scanning-best}
-use Rattle.scans.specs.declared.Query.{Query}
+use Rattle.fits.specs.Scans.{Scanned, scanned, first, scanAll, BestWithin, Ready}
+use Rattle.fits.specs.Thinned.{Thinned, thinned-itself}
+use Rattle.fits.specs.ScanLaws.{listIn, ready-thinned, looking-thins}
+use Rattle.fits.specs.Candidates.{scan-scans, scanning-best}
+use Rattle.fits.specs.declared.Query.{Query}
 use Rattle.choices.specs.declared.Chosen.{Chosen}
 use Rattle.choices.specs.Choices.{chosenOf, ScanAnswer, scanAnswer, scanBucket, Searched, searched, searchOne, Searchable}
 

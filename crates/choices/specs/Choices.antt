@@ -9,10 +9,10 @@ use Rattle.geometry.specs.declared.Bucket.the-variants.{Small, Medium, Large}
 use Rattle.slots.specs.Slots.{slot}
 use Rattle.lists.specs.Lists.{Bag, bag}
 use Rattle.buckets.specs.FreeLists.{Lists, listOf, withList}
-use Rattle.scans.specs.Scans.{scanned, first, scanAll, Ready}
-use Rattle.scans.specs.declared.Best.{Best}
-use Rattle.scans.specs.declared.Best.the-variants as best
-use Rattle.scans.specs.declared.Query.{Query}
+use Rattle.fits.specs.Scans.{scanned, first, scanAll, Ready}
+use Rattle.fits.specs.declared.Best.{Best}
+use Rattle.fits.specs.declared.Best.the-variants as best
+use Rattle.fits.specs.declared.Query.{Query}
 use Rattle.choices.specs.declared.Chosen.{Chosen}
 use Rattle.choices.specs.declared.Chosen.the-variants.{At, Nothing}
 

@@ -1,13 +1,13 @@
 // The choice in one bucket: what the scan of its list answers, and whether the search ends there.
 use buckets::Lengths;
+use fits::Best;
+use fits::Query;
 use geometry::Bucket;
-use scans::Best;
-use scans::Query;
 use slots::AllocIndex;
 ghost use mathlib.Core.Path.{_≡_};
 ghost use Rattle.lists.specs.Lists.{bag};
 ghost use Rattle.buckets.specs.FreeLists.{lists};
-ghost use Rattle.scans.specs.Scans.{scanned, first, BestWithin, Ready};
+ghost use Rattle.fits.specs.Scans.{scanned, first, BestWithin, Ready};
 ghost use Rattle.choices.specs.Choices.{chosenOf, scanAnswer, scanBucket, searched, searchOne, isLarge, higher, settled, Searchable};
 
 // The slot that was chosen, with its bucket and its place in that bucket's list.
@@ -43,7 +43,7 @@ fn scan_bucket(words: &[u32], list: &mut [u32], len: usize, bucket: Bucket, q: Q
     requires { ⌜ Ready (now words) (scanned (first len) (now list)) ⌝ }
     ensures { λ r. ⌜ scanAnswer (r .chosen) (bag (now (list .exit)) (r .len)) ≡ scanBucket (now (words .entry)) q bucket (bag (now (list .entry)) len) ⌝ }
 {
-    let s = scans::scan_list(words, list, len, q);
+    let s = fits::scan_list(words, list, len, q);
     let best = s.best;
     Answer {
         chosen: chosen_of(list, best, bucket),

@@ -14,22 +14,22 @@ use Rattle.geometry.specs.declared.Bucket.{Bucket}
 use Rattle.geometry.specs.declared.Bucket.the-variants.{Small, Medium, Large}
 use Rattle.slots.specs.declared.AllocIndex.{AllocIndex}
 use Rattle.buckets.specs.FreeLists.{Lists, listOf, withList}
-use Rattle.scans.specs.declared.Best.{Best}
-use Rattle.scans.specs.declared.Best.the-variants as best
+use Rattle.fits.specs.declared.Best.{Best}
+use Rattle.fits.specs.declared.Best.the-variants as best
 use Rattle.choices.specs.declared.Chosen.{Chosen}
 use Rattle.choices.specs.declared.Chosen.the-variants.{At, Nothing}
-use Rattle.scans.specs.declared.Query.{Query}
-use Rattle.scans.specs.Scans.{Scanned}
+use Rattle.fits.specs.declared.Query.{Query}
+use Rattle.fits.specs.Scans.{Scanned}
 use Rattle.choices.specs.Choices.{chosenOf, scanBucket, Searched, searchOne, isLarge, higher, settled, Searchable}
 use Rattle.search.specs.Search.{searchUp}
-use Rattle.scans.specs.Suits.{Suits}
+use Rattle.fits.specs.Suits.{Suits}
 use Rattle.geometry.specs.TestLaws.{same-or-not}
 use Rattle.lists.specs.Counts.{occurrences}
 use Rattle.lists.specs.OccurrenceLaws.{occurs-at}
 use Rattle.buckets.specs.FreeListLaws.{listOf-withList-same}
-use Rattle.scans.specs.Thinned.{Thinned, thinned-twice}
-use Rattle.scans.specs.ScanLaws.{listIn, looking-ends}
-use Rattle.scans.specs.Candidates.{Scanning, SoFar, scan-scans}
+use Rattle.fits.specs.Thinned.{Thinned, thinned-twice}
+use Rattle.fits.specs.ScanLaws.{listIn, looking-ends}
+use Rattle.fits.specs.Candidates.{Scanning, SoFar, scan-scans}
 use Rattle.choices.specs.ChoiceLaws.{one-thins, one-searchable}
 
 -- What is known of the slot that a search of some buckets chose: its entry's place, and that it suits.

@@ -20,12 +20,12 @@ use Rattle.lists.specs.Lists.{freeEntry, Each}
 use Rattle.buckets.specs.FreeLists.{Lists, listOf}
 use Rattle.choices.specs.declared.Chosen.{Chosen}
 use Rattle.choices.specs.declared.Chosen.the-variants.{At, Nothing}
-use Rattle.scans.specs.Scans.{Lookable}
+use Rattle.fits.specs.Scans.{Lookable}
 use Rattle.choices.specs.Choices.{Searched, Searchable}
 use Rattle.search.specs.Search.{queryOf, findSuitable}
-use Rattle.scans.specs.Suits.{Suits}
+use Rattle.fits.specs.Suits.{Suits}
 use Rattle.lists.specs.Counts.{occurrences}
-use Rattle.scans.specs.Thinned.{Thinned, each-thinned}
+use Rattle.fits.specs.Thinned.{Thinned, each-thinned}
 use Rattle.choices.specs.ChoiceLaws.{searchable-thinned}
 use Rattle.search.specs.Answers.{Chose, Answered, up-thins, up-answers}
 

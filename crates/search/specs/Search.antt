@@ -8,7 +8,7 @@ use Rattle.geometry.specs.declared.Bucket.{Bucket}
 use Rattle.geometry.specs.declared.Extent.{Extent}
 use Rattle.geometry.specs.declared.Setup.{Setup}
 use Rattle.buckets.specs.FreeLists.{Lists}
-use Rattle.scans.specs.declared.Query.{Query}
+use Rattle.fits.specs.declared.Query.{Query}
 use Rattle.choices.specs.Choices.{Searched, searchOne, isLarge, higher, settled}
 
 -- From a bucket upward, at most k more; the first bucket with a candidate decides.

@@ -12,7 +12,7 @@ use Rattle.geometry.specs.declared.Bucket.the-variants.{Small, Medium, Large}
 use Rattle.geometry.specs.declared.Extent.{Extent}
 use Rattle.geometry.specs.declared.Setup.{Setup}
 use Rattle.buckets.specs.FreeLists.{Lists}
-use Rattle.scans.specs.declared.Query.{Query}
+use Rattle.fits.specs.declared.Query.{Query}
 use Rattle.choices.specs.declared.Chosen.{Chosen}
 use Rattle.choices.specs.declared.Chosen.the-variants.{At, Nothing}
 use Rattle.choices.specs.Choices.{Searched, searchOne, isLarge, higher, settled, Searchable}

@@ -1,10 +1,10 @@
 // The search for a Free rectangle that takes a request: bucket by bucket, from the request's upward.
 use buckets::Lengths;
 use choices::Search;
+use fits::Query;
 use geometry::Bucket;
 use geometry::Extent;
 use geometry::Setup;
-use scans::Query;
 ghost use mathlib.Core.Path.{_≡_};
 ghost use Rattle.buckets.specs.FreeLists.{lists};
 ghost use Rattle.choices.specs.Choices.{searched, Searchable};

@@ -4,10 +4,10 @@ use mathlib.Core.Path.{_≡_, refl, sym, _∙_}
 use Prim.Native.Nat.{_-_}
 use native.Mathlib.Omega.{arith}
 use lib.ListN.{length}
-use Rattle.scans.specs.Scans.{scanned, looking, scanAll, Ready}
-use Rattle.scans.specs.ScanLaws.{look-left, look-ready, looking-past, looking-enough, looking-on}
-use Rattle.scans.proofs.scan_list.Statement.{statement}
-use Rattle.scans.proofs.scan_list.Tie as tie
+use Rattle.fits.specs.Scans.{scanned, looking, scanAll, Ready}
+use Rattle.fits.specs.ScanLaws.{look-left, look-ready, looking-past, looking-enough, looking-on}
+use Rattle.fits.proofs.scan_list.Statement.{statement}
+use Rattle.fits.proofs.scan_list.Tie as tie
 
 abbrev Inv-loop : tie.InvT-loop
 Inv-loop words list₀ len q s₀ list s =

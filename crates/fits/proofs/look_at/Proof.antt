@@ -2,9 +2,9 @@
 -- Assumes nothing.
 use mathlib.Core.Path.{sym, _∙_}
 use borrow.Author.Needs.{needs}
-use Rattle.scans.specs.ScanLaws.{entry-corners, look-free, look-dead}
-use Rattle.scans.proofs.look_at.Statement.{statement}
-use Rattle.scans.proofs.look_at.Tie as tie
+use Rattle.fits.specs.ScanLaws.{entry-corners, look-free, look-dead}
+use Rattle.fits.proofs.look_at.Statement.{statement}
+use Rattle.fits.proofs.look_at.Tie as tie
 
 mul-t13 : tie.Need-mul-t13
 mul-t13 c = search needs

@@ -4,7 +4,7 @@ use slots::AllocIndex;
 use slots::NodeKind;
 ghost use mathlib.Core.Path.{_≡_};
 ghost use Prim.Native.Nat.{_≤_, _<_};
-ghost use Rattle.scans.specs.Scans.{lesser, better, weighed, scanned, first, look, scanAll, Ready};
+ghost use Rattle.fits.specs.Scans.{lesser, better, weighed, scanned, first, look, scanAll, Ready};
 
 // What is looked for: a rectangle at least this wide and tall. The greatest lesser spare side wins where worst is set, else the least.
 pub struct Query {

@@ -13,10 +13,10 @@ use Rattle.slots.specs.Slots.{slot}
 use Rattle.table.specs.Table.{nodeAt, HasSlot}
 use Rattle.slots.specs.declared.NodeKind.the-variants.{Free}
 use Rattle.lists.specs.Lists.{Bag, bag, removed, freeEntry, Each}
-use Rattle.scans.specs.declared.Best.{Best}
-use Rattle.scans.specs.declared.Best.the-variants.{At, Nothing}
-use Rattle.scans.specs.declared.Query.{Query}
-use Rattle.scans.specs.declared.Scan.{Scan}
+use Rattle.fits.specs.declared.Best.{Best}
+use Rattle.fits.specs.declared.Best.the-variants.{At, Nothing}
+use Rattle.fits.specs.declared.Query.{Query}
+use Rattle.fits.specs.declared.Scan.{Scan}
 
 unfoldable pub lesser : ℕ → ℕ → ℕ
 lesser a b = pick (leb a b) a b

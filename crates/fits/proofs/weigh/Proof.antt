@@ -3,9 +3,9 @@
 use mathlib.Core.Path.{sym, _∙_}
 use borrow.Author.Needs.{needs}
 use borrow.Author.Tests.{eq-eqb, ne-eqb, lt-ltb, le-ltb}
-use Rattle.scans.specs.Scans.{weighed}
-use Rattle.scans.proofs.weigh.Statement.{statement}
-use Rattle.scans.proofs.weigh.Tie as tie
+use Rattle.fits.specs.Scans.{weighed}
+use Rattle.fits.proofs.weigh.Statement.{statement}
+use Rattle.fits.proofs.weigh.Tie as tie
 
 add-next : tie.Need-add-next
 add-next c = search needs

@@ -1,9 +1,9 @@
 -- `is_better` goes by the cases of `better`.
 -- Assumes nothing.
 use borrow.Author.Needs.{needs}
-use Rattle.scans.specs.Scans.{better}
-use Rattle.scans.proofs.is_better.Statement.{statement}
-use Rattle.scans.proofs.is_better.Tie as tie
+use Rattle.fits.specs.Scans.{better}
+use Rattle.fits.proofs.is_better.Statement.{statement}
+use Rattle.fits.proofs.is_better.Tie as tie
 
 enum-told : tie.Need-enum-told
 enum-told c = search needs
