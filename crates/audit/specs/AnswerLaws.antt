@@ -7,7 +7,7 @@ use native.Mathlib.Omega.{arith}
 use borrow.Author.Tests.{eq-eqb, ne-eqb}
 use Rattle.steps.specs.State.{State}
 use Rattle.sound.specs.Sound.{Sound}
-use Rattle.starts.specs.StartWhen.{LentOf}
+use Rattle.lent.specs.Lent.{LentOf}
 use Rattle.audit.specs.Audited.{Checked}
 use Rattle.audit.specs.Exact.{check-is-exact}
 use Rattle.audit.specs.Answers.{Given, given, afterCheck, Answers}

@@ -12,13 +12,13 @@ use Rattle.geometry.specs.Sides.{setupOf}
 use Rattle.geometry.specs.declared.Bucket.{Bucket}
 use Rattle.geometry.specs.declared.Setup.{Setup}
 use Rattle.lists.specs.Lists.{Each}
-use Rattle.lists.specs.FreeLists.{listOf}
+use Rattle.buckets.specs.FreeLists.{listOf}
 use Rattle.steps.specs.Spares.{unusedBelow}
 use Rattle.steps.specs.State.{State, listsOf}
 use Rattle.sound.specs.Sound.{Counted, Listed}
 use Rattle.links.specs.Links.{spareWalk}
 use Rattle.links.specs.SpareLaws.{spare-walk-yes, spare-walk-no}
-use Rattle.starts.specs.StartWhen.{LentOf}
+use Rattle.lent.specs.Lent.{LentOf}
 use Rattle.scans.specs.Tests.{firstFrom, listedAt}
 use Rattle.scans.specs.Marks.{marksOf, ListsReady}
 use Rattle.audit.specs.Audited as audited

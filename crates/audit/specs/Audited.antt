@@ -10,15 +10,16 @@ use lib.ListN.{length, take, replicate}
 use lib.Dec.{eqb, ltb, leb}
 use Rattle.geometry.specs.Choice.{pick}
 use Rattle.geometry.specs.Sides.{validSetup}
-use Rattle.slots.specs.Slots.{slot, nodeAt}
+use Rattle.slots.specs.Slots.{slot}
+use Rattle.table.specs.Table.{nodeAt}
 use Rattle.lists.specs.Lists.{Bag, occurs, freeEntry}
-use Rattle.lists.specs.FreeLists.{Lists, listOf}
+use Rattle.buckets.specs.FreeLists.{Lists, listOf}
 use Rattle.steps.specs.State.{State, listsOf}
 use Rattle.steps.specs.declared.Head.{Head}
 use Rattle.sound.specs.View.{linkOf, seen}
 use Rattle.sound.specs.Sound.{Counted, SpareChain, Linked, Merged, Placed, Listed, LastTrue, Sound, ownBucket}
 use Rattle.links.specs.Links.{firstsTo, linksAt, mergedAt}
-use Rattle.starts.specs.StartWhen.{LentOf}
+use Rattle.lent.specs.Lent.{LentOf}
 use Rattle.scans.specs.Tests.{firstFrom, entryBelow, filledAt, notLastAt}
 use Rattle.audit.specs.declared.Verdict.{Verdict}
 

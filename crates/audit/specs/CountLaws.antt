@@ -12,13 +12,13 @@ use Rattle.geometry.specs.Sides.{validSetup}
 use Rattle.geometry.specs.declared.Bucket.{Bucket}
 use Rattle.geometry.specs.declared.Bucket.the-variants.{Small, Medium, Large}
 use Rattle.lists.specs.Lists.{Bag, Each}
-use Rattle.lists.specs.FreeLists.{Lists, listOf, Within}
+use Rattle.buckets.specs.FreeLists.{Lists, listOf, Within}
 use Rattle.steps.specs.State.{State, listsOf}
 use Rattle.steps.specs.declared.Head.{Head}
 use Rattle.sound.specs.Sound.{Counted}
 use Rattle.links.specs.Links.{Table}
 use Rattle.links.specs.TestLaws.{Says, both-say, not-say, less-says, equal-says}
-use Rattle.starts.specs.StartWhen.{LentOf}
+use Rattle.lent.specs.Lent.{LentOf}
 use Rattle.scans.specs.Tests.{firstFrom, entryBelow}
 use Rattle.scans.specs.FirstLaws.{lowest-breaks, lowest-all}
 use Rattle.audit.specs.Audited.{numbersHold, numbersOf, verdict, entryFound, entriesFound}

@@ -8,7 +8,8 @@ use lib.ListN.{length}
 use Rattle.geometry.specs.TestLaws.{and-true-each}
 use Rattle.geometry.specs.declared.Rectangle.{Rectangle}
 use Rattle.geometry.specs.declared.Setup.{Setup}
-use Rattle.slots.specs.Slots.{slot, nodeAt}
+use Rattle.slots.specs.Slots.{slot}
+use Rattle.table.specs.Table.{nodeAt}
 use Rattle.slots.specs.declared.Node.{Node}
 use Rattle.steps.specs.Spares.{unusedBelow}
 use Rattle.sound.specs.View.{none, linkOf, seen}

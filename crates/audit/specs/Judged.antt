@@ -9,7 +9,7 @@ use lib.Dec.{eqb, ltb}
 use Rattle.geometry.specs.Choice.{pick}
 use Rattle.geometry.specs.declared.Rectangle.{Rectangle}
 use Rattle.geometry.specs.declared.Setup.{Setup}
-use Rattle.lists.specs.FreeLists.{Lists, Within}
+use Rattle.buckets.specs.FreeLists.{Lists, Within}
 use Rattle.steps.specs.Spares.{unusedBelow}
 use Rattle.sound.specs.View.{seen}
 use Rattle.sound.specs.Rules.{PlaceChain}

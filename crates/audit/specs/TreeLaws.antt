@@ -9,7 +9,7 @@ use Rattle.geometry.specs.Sides.{setupOf}
 use Rattle.geometry.specs.declared.AllocatorOptions.{AllocatorOptions}
 use Rattle.geometry.specs.declared.Setup.{Setup}
 use Rattle.geometry.specs.declared.Size.{Size}
-use Rattle.lists.specs.FreeLists.{Lists}
+use Rattle.buckets.specs.FreeLists.{Lists}
 use Rattle.links.specs.Links.{firstsTo}
 use Rattle.links.specs.FirstLaws.{Firsts, firsts-of-none-links, firsts-front}
 use Rattle.scans.specs.Marks.{marksFrom, marksOf}

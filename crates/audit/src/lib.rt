@@ -1,7 +1,7 @@
 // The check of the tables: the lowest-numbered rule of soundness that is broken, and where.
+use buckets::Lengths;
 use geometry::Rectangle;
 use geometry::Setup;
-use lists::Lengths;
 use places::Placed;
 use scans::Test;
 use slots::AllocIndex;
@@ -11,11 +11,11 @@ ghost use mathlib.Core.Bool.{true};
 ghost use Prim.Native.Nat.{_-_, _≤_, _<_};
 ghost use lib.ListN.{length};
 ghost use Rattle.lists.specs.Lists.{bag};
-ghost use Rattle.lists.specs.FreeLists.{lists};
+ghost use Rattle.buckets.specs.FreeLists.{lists};
 ghost use Rattle.geometry.specs.Sides.{setupOf};
 ghost use Rattle.steps.specs.Spares.{unusedBelow};
 ghost use Rattle.steps.specs.State.{state};
-ghost use Rattle.starts.specs.Lent.{Lent};
+ghost use Rattle.lent.specs.Lent.{Lent};
 ghost use Rattle.scans.specs.Marks.{marksOf};
 ghost use Rattle.audit.specs.Audited.{numbersHold, entryFound, entriesFound, firstsOf, Audited, Checked};
 ghost use Rattle.audit.specs.Judged.{brokenAt, isWhole, isFilled, whole, Prepared, Walked, Judged, EntriesReady, TreeReady};
@@ -139,7 +139,7 @@ fn audit_marked(
     requires { ⌜ Prepared (now words) (now firsts) (now marks) n (root .0) × (live ≡ n - unusedBelow (now words) n) ⌝ }
     ensures { λ r. ⌜ Judged (now (words .entry)) (now (firsts .entry)) (now (marks .entry)) n (root .0) setup (r .rule) (r .place) ⌝ }
 {
-    let top = slots::node_at(words, root);
+    let top = table::node_at(words, root);
     let o = top.orientation;
     let p = places::place_of_chain(words, firsts, root, AllocIndex(slots::NONE), o, live);
     if !is_whole(p) {
@@ -282,7 +282,7 @@ pub fn check(
 ) -> u32
     ensures { λ r. ⌜ Checked (state head (now (words .entry)) (now (generations .entry)) (now (small .entry)) (now (medium .entry)) (now (large .entry))) r ⌝ }
 {
-    if !starts::is_lent(
+    if !lent::is_lent(
         words.len(),
         generations.len(),
         small.len(),

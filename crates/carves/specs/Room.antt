@@ -4,7 +4,8 @@ use mathlib.Core.Path.{_≡_}
 use mathlib.Core.Bool.{false}
 use mathlib.Core.List.{List}
 use Prim.Native.Nat.{ℕ, zero, suc}
-use Rattle.slots.specs.Slots.{isNone, nodeAt, HasSlot}
+use Rattle.slots.specs.Slots.{isNone}
+use Rattle.table.specs.Table.{nodeAt, HasSlot}
 use Rattle.slots.specs.declared.AllocIndex.{AllocIndex}
 use Rattle.steps.specs.Spares.{newNode, HasSpare}
 use Rattle.steps.specs.declared.Head.{Head}

@@ -4,9 +4,9 @@ use mathlib.Core.Path.{_≡_, refl, ap, _∙_}
 use mathlib.Core.List.{List}
 use Prim.Native.Nat.{ℕ, suc}
 use Rattle.slots.specs.Slots.{none}
-use Rattle.slots.specs.Stores.{Store, stored}
+use Rattle.table.specs.Stores.{Store, stored}
 use Rattle.slots.specs.declared.AllocIndex.{AllocIndex}
-use Rattle.slots.specs.SlotLaws.{has-stored}
+use Rattle.table.specs.TableLaws.{has-stored}
 use Rattle.steps.specs.Spares.{Fresh, newNode, HasSpare}
 use Rattle.steps.specs.declared.Head.{Head}
 use Rattle.grants.specs.Carves.{news, newsOf}

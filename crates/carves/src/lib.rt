@@ -1,5 +1,5 @@
 // Allocate in the slot table: the new slots are taken, and written with the chosen slot and its next.
-use geometry::Cut;
+use cuts::Cut;
 use geometry::Orientation;
 use geometry::Rectangle;
 use grants::Shape;
@@ -10,7 +10,7 @@ use steps::Head;
 use steps::Taken;
 ghost use mathlib.Core.Path.{_≡_};
 ghost use mathlib.Core.List.{[]};
-ghost use Rattle.slots.specs.Slots.{nodeAt, HasSlot};
+ghost use Rattle.table.specs.Table.{nodeAt, HasSlot};
 ghost use Rattle.grants.specs.Shapes.{slotsNeeded};
 ghost use Rattle.grants.specs.Carves.{news, newsOf, turned, answeredBy, beside, pairUnder, carved};
 ghost use Rattle.carves.specs.Room.{two, twoNodes, CanTake, LinkHas, Carvable};
@@ -136,8 +136,8 @@ fn turn(words: &mut [u32], i: AllocIndex, rect: Rectangle)
     requires { ⌜ HasSlot (now words) i ⌝ }
     ensures { λ _. ⌜ now (words .exit) ≡ turned (now (words .entry)) i rect ⌝ }
 {
-    slots::set_kind(words, i, NodeKind::Alloc);
-    slots::set_rect(words, i, rect);
+    table::set_kind(words, i, NodeKind::Alloc);
+    table::set_rect(words, i, rect);
 }
 
 // A link to j, unless it is none, is answered by j's prev.
@@ -148,7 +148,7 @@ fn answer_link(words: &mut [u32], j: AllocIndex, s: AllocIndex)
     if slots::is_none(j) {
         return;
     }
-    slots::set_prev(words, j, s);
+    table::set_prev(words, j, s);
 }
 
 // Split becomes the chosen slot's next sibling.
@@ -156,7 +156,7 @@ fn split_beside(words: &mut [u32], i: AllocIndex, s: AllocIndex, rect: Rectangle
     requires { ⌜ HasSlot (now words) i × HasSlot (now words) s × LinkHas (now words) (nodeAt (now words) i .next) ⌝ }
     ensures { λ _. ⌜ now (words .exit) ≡ beside (now (words .entry)) i s rect ⌝ }
 {
-    let node = slots::node_at(words, i);
+    let node = table::node_at(words, i);
     let parent = node.parent;
     let next = node.next;
     let o = node.orientation;
@@ -168,8 +168,8 @@ fn split_beside(words: &mut [u32], i: AllocIndex, s: AllocIndex, rect: Rectangle
         orientation: o,
         rect: rect,
     };
-    slots::put_node(words, s, split);
-    slots::set_next(words, i, s);
+    table::put_node(words, s, split);
+    table::set_next(words, i, s);
     answer_link(words, next, s);
 }
 
@@ -204,8 +204,8 @@ fn put_pair(
         orientation: o,
         rect: other,
     };
-    slots::put_node(words, a, first);
-    slots::put_node(words, b, last);
+    table::put_node(words, a, first);
+    table::put_node(words, b, last);
 }
 
 // Writes the slots of a cut: slot i is chosen, and the request lies at rect.
@@ -220,7 +220,7 @@ pub fn carve(
     requires { ⌜ Carvable shape (now words) i (new .split) (new .inner) (new .alloc) (new .left) ⌝ }
     ensures { λ _. ⌜ now (words .exit) ≡ carved shape (now (words .entry)) i (news (new .split) (new .inner) (new .alloc) (new .left) (new .head) []) rect cut ⌝ }
 {
-    let node = slots::node_at(words, i);
+    let node = table::node_at(words, i);
     let o = node.orientation;
     let over = geometry::flipped(o);
     let s = new.split;
@@ -239,7 +239,7 @@ pub fn carve(
         }
         Shape::AlongLeft => {
             split_beside(words, i, s, split);
-            slots::set_kind(words, i, NodeKind::Container);
+            table::set_kind(words, i, NodeKind::Container);
             put_pair(
                 words,
                 i,
@@ -252,7 +252,7 @@ pub fn carve(
             );
         }
         Shape::Across => {
-            slots::set_kind(words, i, NodeKind::Container);
+            table::set_kind(words, i, NodeKind::Container);
             put_pair(
                 words,
                 i,
@@ -265,7 +265,7 @@ pub fn carve(
             );
         }
         Shape::AcrossLeft => {
-            slots::set_kind(words, i, NodeKind::Container);
+            table::set_kind(words, i, NodeKind::Container);
             let zero = Rectangle {
                 x0: 0,
                 y0: 0,

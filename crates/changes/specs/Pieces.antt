@@ -6,9 +6,10 @@ use mathlib.Core.Bool.{true, false}
 use mathlib.Core.Logic.{inr}
 use native.Mathlib.Omega.{arith}
 use borrow.Author.Tests.{leb-true, leb-false}
-use Rattle.geometry.specs.Cuts.{flip, emptyRect, FitsIn, atCorner, splitOf, leftoverOf, widthOf, heightOf}
+use Rattle.geometry.specs.Rectangles.{flip, emptyRect, widthOf, heightOf}
+use Rattle.cuts.specs.Cuts.{FitsIn, atCorner, splitOf, leftoverOf}
 use Rattle.geometry.specs.Measures.{start, end, along}
-use Rattle.geometry.specs.PieceLaws.{pieces-span, fits-along, along-positive, span-empty}
+use Rattle.cuts.specs.PieceLaws.{pieces-span, fits-along, along-positive, span-empty}
 use Rattle.geometry.specs.TestLaws.{or-false-each}
 use Rattle.geometry.specs.declared.Orientation.{Orientation}
 use Rattle.geometry.specs.declared.Orientation.the-variants.{Vertical, Horizontal}

@@ -6,7 +6,7 @@ use mathlib.Core.Logic.{inl, inr}
 use Prim.Native.Nat.{ℕ, _+_, _≤_, _<_}
 use native.Mathlib.Omega.{arith}
 use Rattle.geometry.specs.Choice.{pick}
-use Rattle.geometry.specs.Cuts.{flip}
+use Rattle.geometry.specs.Rectangles.{flip}
 use Rattle.geometry.specs.Measures.{within, covers}
 use Rattle.geometry.specs.MeasureLaws.{covers-one}
 use Rattle.geometry.specs.declared.Orientation.{Orientation}

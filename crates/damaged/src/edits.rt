@@ -1,8 +1,8 @@
 // The tables that the list tells of, and the lines that change them. A change at a place that the tables don't have is not
 // made, and answered with false.
+use buckets::Lengths;
 use geometry::AllocatorOptions;
 use geometry::Size;
-use lists::Lengths;
 use slots::AllocIndex;
 use steps::Head;
 

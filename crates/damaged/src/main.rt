@@ -105,7 +105,7 @@ fn check_lent(
     large: &[u32],
     head: Head,
 ) -> Checked {
-    if !starts::is_lent(
+    if !lent::is_lent(
         words.len(),
         generations.len(),
         small.len(),

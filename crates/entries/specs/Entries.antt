@@ -4,13 +4,14 @@ use mathlib.Core.List.{List}
 use Prim.Native.Nat.{ℕ, _*_, _≤_}
 use lib.ListN.{length}
 use Rattle.geometry.specs.Buckets.{bucketOf}
-use Rattle.geometry.specs.Cuts.{widthOf, heightOf}
+use Rattle.geometry.specs.Rectangles.{widthOf, heightOf}
 use Rattle.geometry.specs.declared.Bucket.{Bucket}
 use Rattle.geometry.specs.declared.Rectangle.{Rectangle}
 use Rattle.geometry.specs.declared.Setup.{Setup}
 use Rattle.slots.specs.declared.AllocIndex.{AllocIndex}
-use Rattle.lists.specs.Lists.{Bag, Entries, Pushable}
-use Rattle.lists.specs.FreeLists.{Lists, listOf, pushedTo}
+use Rattle.lists.specs.Lists.{Bag, Entries}
+use Rattle.pushes.specs.Pushes.{Pushable}
+use Rattle.buckets.specs.FreeLists.{Lists, listOf, pushedTo}
 
 -- Slot i with rectangle r is pushed, by the thresholds of a setup.
 abbrev pub entered : List ℕ → Setup → AllocIndex → Rectangle → Lists → Lists

@@ -6,17 +6,19 @@ use Prim.Native.Nat.{ℕ, _<_}
 use native.Mathlib.Omega.{arith}
 use lib.ListN.{length}
 use Rattle.geometry.specs.Buckets.{bucketOf}
-use Rattle.geometry.specs.Cuts.{widthOf, heightOf}
+use Rattle.geometry.specs.Rectangles.{widthOf, heightOf}
 use Rattle.geometry.specs.declared.Bucket.{Bucket}
 use Rattle.geometry.specs.declared.Rectangle.{Rectangle}
 use Rattle.geometry.specs.declared.Setup.{Setup}
-use Rattle.slots.specs.Slots.{slot, HasSlot}
+use Rattle.slots.specs.Slots.{slot}
+use Rattle.table.specs.Table.{HasSlot}
 use Rattle.slots.specs.declared.AllocIndex.{AllocIndex}
-use Rattle.lists.specs.Lists.{Bag, removed, pushed}
-use Rattle.lists.specs.FreeLists.{Lists, listOf, removedFrom}
-use Rattle.lists.specs.FreeListLaws.{withList-elim}
+use Rattle.lists.specs.Lists.{Bag, removed}
+use Rattle.pushes.specs.Pushes.{pushed}
+use Rattle.buckets.specs.FreeLists.{Lists, listOf, removedFrom}
+use Rattle.buckets.specs.FreeListLaws.{withList-elim}
 use Rattle.lists.specs.ListLaws.{length-removed, entries-removed, entries-words}
-use Rattle.lists.specs.PushLaws.{length-pushed, entries-pushed}
+use Rattle.pushes.specs.PushLaws.{length-pushed, entries-pushed}
 use Rattle.entries.specs.Entries.{entered, ListReady, ListsReady, Enterable}
 
 -- Any slot of the table can be pushed.

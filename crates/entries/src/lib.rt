@@ -1,11 +1,11 @@
 // The entry of a Free slot, in the list of its rectangle's bucket.
+use buckets::Lengths;
 use geometry::Rectangle;
 use geometry::Setup;
-use lists::Lengths;
 use slots::AllocIndex;
 ghost use mathlib.Core.Path.{_≡_};
 ghost use Prim.Native.Nat.{_≤_};
-ghost use Rattle.lists.specs.FreeLists.{lists};
+ghost use Rattle.buckets.specs.FreeLists.{lists};
 ghost use Rattle.entries.specs.Entries.{entered, Enterable};
 
 // Pushes slot i onto the list of its rectangle's bucket.
@@ -29,5 +29,5 @@ pub fn add_free_rect(
         rect.x1 - rect.x0,
         rect.y1 - rect.y0,
     );
-    lists::push_to(words, small, medium, large, lengths, bucket, i.0)
+    buckets::push_to(words, small, medium, large, lengths, bucket, i.0)
 }

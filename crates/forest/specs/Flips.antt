@@ -1,6 +1,6 @@
 -- Turning an orientation twice. Assumes nothing.
 use mathlib.Core.Path.{_≡_, refl}
-use Rattle.geometry.specs.Cuts.{flip}
+use Rattle.geometry.specs.Rectangles.{flip}
 use Rattle.geometry.specs.declared.Orientation.{Orientation}
 use Rattle.geometry.specs.declared.Orientation.the-variants.{Vertical, Horizontal}
 

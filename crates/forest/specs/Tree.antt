@@ -4,7 +4,7 @@
 use Prim.Native.Nat.{ℕ, _+_, _≤_, _<_}
 use mathlib.Core.Path.{_≡_, refl, sym}
 use native.Mathlib.Omega.{arith}
-use Rattle.geometry.specs.Cuts.{flip}
+use Rattle.geometry.specs.Rectangles.{flip}
 use Rattle.geometry.specs.Measures.{span, Adds}
 use Rattle.geometry.specs.MeasureLaws.{span-flip, adds-nothing}
 use Rattle.geometry.specs.declared.Orientation.{Orientation}

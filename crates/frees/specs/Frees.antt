@@ -3,8 +3,8 @@
 use mathlib.Core.List.{List}
 use Prim.Native.Nat.{ℕ}
 use Rattle.geometry.specs.Sides.{setupOf}
-use Rattle.slots.specs.Slots.{nodeAt}
-use Rattle.slots.specs.Stores.{stored, toKind}
+use Rattle.table.specs.Table.{nodeAt}
+use Rattle.table.specs.Stores.{stored, toKind}
 use Rattle.slots.specs.declared.AllocIndex.{AllocIndex}
 use Rattle.slots.specs.declared.NodeKind.the-variants.{Free}
 use Rattle.steps.specs.Spares.{withSpare}

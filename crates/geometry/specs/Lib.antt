@@ -1,14 +1,9 @@
 pub mod Choice
 pub mod Sides
-pub mod Rounding
 pub mod Buckets
-pub mod Cuts
+pub mod Rectangles
 pub mod Measures
 pub mod TestLaws
 pub mod SideLaws
-pub mod RoundingLaws
-pub mod RequestLaws
 pub mod BucketLaws
 pub mod MeasureLaws
-pub mod PieceLaws
-pub mod CutLaws

@@ -9,7 +9,7 @@ use native.Mathlib.Omega.{arith}
 use lib.Dec.{leb}
 use borrow.Author.Tests.{leb-true, leb-false, ltb-true, le-leb, lt-ltb, le-ltb}
 use Rattle.geometry.specs.Choice.{pick}
-use Rattle.geometry.specs.Cuts.{flip}
+use Rattle.geometry.specs.Rectangles.{flip}
 use Rattle.geometry.specs.Measures.{within, covers, areaOf, span, Adds}
 use Rattle.geometry.specs.TestLaws.{and-true-each}
 use Rattle.geometry.specs.declared.Rectangle.{Rectangle}

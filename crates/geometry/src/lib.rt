@@ -1,10 +1,9 @@
-// The leaves: sides and setups as they arrive, rounding, buckets and the cut.
+// Sides and setups as they arrive, rectangles and buckets.
 ghost use mathlib.Core.Path.{_≡_};
 ghost use Prim.Native.Nat.{_<_, _^_};
-ghost use Rattle.geometry.specs.Sides.{natural, sheetSide, validSetup, extentOf, setupOf, ValidSetup};
-ghost use Rattle.geometry.specs.Rounding.{rounded, requestOf};
+ghost use Rattle.geometry.specs.Sides.{natural, sheetSide, validSetup, extentOf, setupOf};
 ghost use Rattle.geometry.specs.Buckets.{reaches, bucketOf};
-ghost use Rattle.geometry.specs.Cuts.{flip, noRect, emptyRect, areaCompared, exactFit, cutWay, splitOf, leftoverOf, FitsIn, cutOf};
+ghost use Rattle.geometry.specs.Rectangles.{flip, emptyRect};
 
 // A width and a height as they arrive: any two i32.
 pub struct Size {
@@ -124,62 +123,6 @@ pub fn setup_of(sheet: Size, options: AllocatorOptions) -> Setup
     }
 }
 
-// A side rounded up, or the refusal of one that would be too large.
-pub enum Rounded {
-    To(u32),
-    Over,
-}
-
-// The side rounded up to a multiple of the alignment, refused where that exceeds 2,147,483,647.
-pub fn adjust_size(alignment: u32, side: u32) -> Rounded
-    requires { ⌜ (0 < alignment) × (alignment < 2 ^ 31) × (side < 2 ^ 31) ⌝ }
-    ensures { λ r. ⌜ r ≡ rounded alignment side ⌝ }
-{
-    let rem = side % alignment;
-    if rem == 0 {
-        return Rounded::To(side);
-    }
-    let up = side + (alignment - rem);
-    if up <= 2147483647 {
-        return Rounded::To(up);
-    }
-    Rounded::Over
-}
-
-// A requested size as the search takes it, or why it is refused.
-pub enum Request {
-    Of(Extent),
-    NotPositive,
-    TooLarge,
-}
-
-// Sides of 0 or less are refused first, then sides too large to round up.
-pub fn request_of(setup: Setup, size: Size) -> Request
-    requires { ⌜ ValidSetup setup ⌝ }
-    ensures { λ r. ⌜ r ≡ requestOf setup size ⌝ }
-{
-    let w = natural(size.width);
-    let h = natural(size.height);
-    if w == 0 {
-        return Request::NotPositive;
-    }
-    if h == 0 {
-        return Request::NotPositive;
-    }
-    let wide = adjust_size(setup.alignment.width, w);
-    let tall = adjust_size(setup.alignment.height, h);
-    let Rounded::To(width) = wide else {
-        return Request::TooLarge;
-    };
-    let Rounded::To(height) = tall else {
-        return Request::TooLarge;
-    };
-    Request::Of(Extent {
-        width: width,
-        height: height,
-    })
-}
-
 // The free list that a size belongs to.
 pub enum Bucket {
     Small,
@@ -230,102 +173,4 @@ pub fn is_empty(r: Rectangle) -> bool
         return true;
     }
     r.y1 <= r.y0
-}
-
-// The area by which the cut compares its two candidates.
-fn area_compared(w: u32, h: u32) -> u64
-    ensures { λ r. ⌜ r ≡ areaCompared w h ⌝ }
-{
-    (w as u64) * (h as u64)
-}
-
-// Whether the request has exactly the size of the rectangle.
-fn is_exact(r: Rectangle, w: u32, h: u32) -> bool
-    requires { ⌜ FitsIn r w h ⌝ }
-    ensures { λ e. ⌜ e ≡ exactFit r w h ⌝ }
-{
-    if r.x1 - r.x0 == w {
-        return r.y1 - r.y0 == h;
-    }
-    false
-}
-
-// Horizontal if the candidate to the right has the greater area, else Vertical.
-fn cut_way(r: Rectangle, w: u32, h: u32) -> Orientation
-    requires { ⌜ FitsIn r w h ⌝ }
-    ensures { λ o. ⌜ o ≡ cutWay r w h ⌝ }
-{
-    if area_compared(r.x1 - r.x0 - w, h) > area_compared(w, r.y1 - r.y0 - h) {
-        return Orientation::Horizontal;
-    }
-    Orientation::Vertical
-}
-
-// What the cut leaves past the request: the full-height strip to the right, or the full-width strip below.
-fn split_of(o: Orientation, r: Rectangle, w: u32, h: u32) -> Rectangle
-    requires { ⌜ FitsIn r w h ⌝ }
-    ensures { λ s. ⌜ s ≡ splitOf o r w h ⌝ }
-{
-    match o {
-        Orientation::Horizontal => Rectangle {
-            x0: r.x0 + w,
-            y0: r.y0,
-            x1: r.x1,
-            y1: r.y1,
-        },
-        Orientation::Vertical => Rectangle {
-            x0: r.x0,
-            y0: r.y0 + h,
-            x1: r.x1,
-            y1: r.y1,
-        },
-    }
-}
-
-// What it leaves beside the request: the candidate at the bottom, or the one to the right.
-fn leftover_of(o: Orientation, r: Rectangle, w: u32, h: u32) -> Rectangle
-    requires { ⌜ FitsIn r w h ⌝ }
-    ensures { λ l. ⌜ l ≡ leftoverOf o r w h ⌝ }
-{
-    match o {
-        Orientation::Horizontal => Rectangle {
-            x0: r.x0,
-            y0: r.y0 + h,
-            x1: r.x0 + w,
-            y1: r.y1,
-        },
-        Orientation::Vertical => Rectangle {
-            x0: r.x0 + w,
-            y0: r.y0,
-            x1: r.x1,
-            y1: r.y0 + h,
-        },
-    }
-}
-
-// What the cut leaves of the chosen rectangle beside the request, and how the pieces lie.
-pub struct Cut {
-    pub orientation: Orientation,
-    pub split: Rectangle,
-    pub leftover: Rectangle,
-}
-
-// The cut of a chosen rectangle for a request w by h at its least corner.
-pub fn guillotine_rect(chosen: Rectangle, w: u32, h: u32, kept: Orientation) -> Cut
-    requires { ⌜ FitsIn chosen w h ⌝ }
-    ensures { λ r. ⌜ r ≡ cutOf chosen w h kept ⌝ }
-{
-    if is_exact(chosen, w, h) {
-        return Cut {
-            orientation: kept,
-            split: no_rect(),
-            leftover: no_rect(),
-        };
-    }
-    let way = cut_way(chosen, w, h);
-    Cut {
-        orientation: way,
-        split: split_of(way, chosen, w, h),
-        leftover: leftover_of(way, chosen, w, h),
-    }
 }

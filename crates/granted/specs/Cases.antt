@@ -8,20 +8,21 @@ use native.Mathlib.Omega.{arith}
 use lib.Dec.{leb}
 use borrow.Author.Tests.{leb-true, leb-false}
 use Rattle.geometry.specs.Choice.{pick-elim}
-use Rattle.geometry.specs.Cuts.{atCorner}
+use Rattle.cuts.specs.Cuts.{atCorner}
 use Rattle.geometry.specs.declared.Bucket.{Bucket}
 use Rattle.geometry.specs.declared.Extent.{Extent}
 use Rattle.geometry.specs.declared.Rectangle.{Rectangle}
-use Rattle.slots.specs.Slots.{nodeAt}
+use Rattle.table.specs.Table.{nodeAt}
 use Rattle.slots.specs.declared.AllocIndex.{AllocIndex}
 use Rattle.search.specs.FindLaws.{search-thins, search-nothing-means-none, search-none-means-nothing}
-use Rattle.search.specs.Search.{Searched, findSuitable}
-use Rattle.search.specs.declared.Chosen.{Chosen}
-use Rattle.search.specs.declared.Chosen.the-variants.{At, Nothing}
+use Rattle.choices.specs.Choices.{Searched}
+use Rattle.search.specs.Search.{findSuitable}
+use Rattle.choices.specs.declared.Chosen.{Chosen}
+use Rattle.choices.specs.declared.Chosen.the-variants.{At, Nothing}
 use Rattle.steps.specs.State.{State, listsOf}
 use Rattle.sound.specs.View.{seen}
 use Rattle.sound.specs.Sound.{Sound}
-use Rattle.starts.specs.StartWhen.{LentOf}
+use Rattle.lent.specs.Lent.{LentOf}
 use Rattle.grants.specs.Carves.{newsOf}
 use Rattle.grants.specs.Grants.{Grant, refused, withLists, taken, cutFor, grantOf, granted}
 use Rattle.granted.specs.News.{newOnes}

@@ -4,9 +4,10 @@ use Prim.Native.Nat.{ℕ, _<_}
 use mathlib.Core.Path.{_≡_, refl, sym, _∙_}
 use mathlib.Core.Bool.{Bool, true, false, false≢true}
 use Rattle.geometry.specs.Choice.{pick-elim}
-use Rattle.geometry.specs.Cuts.{flip, emptyRect, FitsIn, atCorner, splitOf, leftoverOf, exactFit, cutWay, cutOf}
-use Rattle.geometry.specs.CutLaws.{exact-fills, exact-no-pieces, cut-pieces, split-not-empty}
-use Rattle.geometry.specs.declared.Cut.{Cut}
+use Rattle.geometry.specs.Rectangles.{flip, emptyRect}
+use Rattle.cuts.specs.Cuts.{FitsIn, atCorner, splitOf, leftoverOf, exactFit, cutWay, cutOf}
+use Rattle.cuts.specs.CutLaws.{exact-fills, exact-no-pieces, cut-pieces, split-not-empty}
+use Rattle.cuts.specs.declared.Cut.{Cut}
 use Rattle.geometry.specs.declared.Orientation.{Orientation}
 use Rattle.geometry.specs.declared.Orientation.the-variants.{Vertical, Horizontal}
 use Rattle.geometry.specs.declared.Rectangle.{Rectangle}

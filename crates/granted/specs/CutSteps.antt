@@ -4,7 +4,7 @@ use Prim.Native.Nat.{ℕ}
 use mathlib.Core.Path.{_≡_, refl, sym, _∙_}
 use mathlib.Core.Logic.{inl, inr}
 use mathlib.Core.List.{[], _∷_}
-use Rattle.geometry.specs.Cuts.{flip}
+use Rattle.geometry.specs.Rectangles.{flip}
 use Rattle.geometry.specs.declared.Rectangle.{Rectangle}
 use Rattle.slots.specs.declared.NodeKind.the-variants.{Container, Alloc}
 use Rattle.sound.specs.View.{to, Seen}

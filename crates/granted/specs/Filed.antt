@@ -8,13 +8,15 @@ use lib.ListN.{length}
 use Rattle.geometry.specs.declared.Bucket.{Bucket}
 use Rattle.geometry.specs.declared.Extent.{Extent}
 use Rattle.geometry.specs.declared.Setup.{Setup}
-use Rattle.lists.specs.FreeListLaws.{withList-elim, pushedTo-within, removedFrom-within}
-use Rattle.lists.specs.FreeLists.{Lists, listOf, Within, pushedTo, removedFrom}
+use Rattle.buckets.specs.FreeListLaws.{withList-elim, pushedTo-within, removedFrom-within}
+use Rattle.buckets.specs.FreeLists.{Lists, listOf, Within, pushedTo, removedFrom}
 use Rattle.lists.specs.ListLaws.{length-removed, each-removed}
-use Rattle.lists.specs.Lists.{Bag, removed, pushed, Each, Pushable}
-use Rattle.lists.specs.PushLaws.{length-pushed, each-pushed}
+use Rattle.lists.specs.Lists.{Bag, removed, Each}
+use Rattle.pushes.specs.Pushes.{pushed, Pushable}
+use Rattle.pushes.specs.PushLaws.{length-pushed, each-pushed}
 use Rattle.search.specs.FindLaws.{search-keeps-searchable, search-within, search-each}
-use Rattle.search.specs.Search.{Searched, findSuitable, Searchable}
+use Rattle.choices.specs.Choices.{Searched, Searchable}
+use Rattle.search.specs.Search.{findSuitable}
 use Rattle.steps.specs.State.{State, listsOf}
 use Rattle.sound.specs.Sound.{Sound}
 

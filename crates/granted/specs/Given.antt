@@ -7,13 +7,14 @@ use mathlib.Core.List.{List, []}
 use native.Mathlib.Omega.{arith}
 use lib.ListN.{length, getD}
 use Rattle.geometry.specs.declared.Bucket.{Bucket}
-use Rattle.geometry.specs.declared.Cut.{Cut}
+use Rattle.cuts.specs.declared.Cut.{Cut}
 use Rattle.geometry.specs.declared.Extent.{Extent}
 use Rattle.geometry.specs.declared.Rectangle.{Rectangle}
-use Rattle.slots.specs.Slots.{slot, nodeAt}
-use Rattle.slots.specs.Tickets.{ticketOf}
+use Rattle.slots.specs.Slots.{slot}
+use Rattle.table.specs.Table.{nodeAt}
+use Rattle.tickets.specs.Tickets.{ticketOf}
 use Rattle.slots.specs.declared.AllocIndex.{AllocIndex}
-use Rattle.lists.specs.FreeLists.{Lists}
+use Rattle.buckets.specs.FreeLists.{Lists}
 use Rattle.steps.specs.Spares.{spareSlots}
 use Rattle.steps.specs.State.{State, listsOf}
 use Rattle.steps.specs.declared.Head.{Head}
@@ -22,7 +23,7 @@ use Rattle.sound.specs.Rules.{NotEmpty}
 use Rattle.sound.specs.Sound.{Sound}
 use Rattle.forest.specs.Pigeon.{In}
 use Rattle.changes.specs.Swaps.{Taken}
-use Rattle.starts.specs.StartWhen.{LentOf}
+use Rattle.lent.specs.Lent.{LentOf}
 use Rattle.grants.specs.Carves.{News, newsOf, carved}
 use Rattle.grants.specs.Grants.{Grant, taken}
 use Rattle.grants.specs.Shapes.{slotsNeeded}

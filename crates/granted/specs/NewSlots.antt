@@ -11,7 +11,8 @@ use lib.ListN.{length, getD, set, length-set}
 use lib.Seq.{getD-set-other}
 use borrow.Author.Tests.{ltb-true, ltb-false}
 use Rattle.geometry.specs.Choice.{pick-elim}
-use Rattle.slots.specs.Slots.{slot, isNone, nodeAt, HasSlot}
+use Rattle.slots.specs.Slots.{slot, isNone}
+use Rattle.table.specs.Table.{nodeAt, HasSlot}
 use Rattle.steps.specs.Spares.{stepped, withSpare, withCount, Fresh, newNode, HasSpare, unusedBelow, spareSlots}
 use Rattle.steps.specs.declared.Head.{Head}
 use Rattle.sound.specs.View.{Link, none, to, linkOf, Seen, seen, inUse, Dead}

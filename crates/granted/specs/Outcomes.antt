@@ -11,13 +11,13 @@ use lib.ListN.{length}
 use Rattle.geometry.specs.declared.Bucket.{Bucket}
 use Rattle.geometry.specs.declared.Bucket.the-variants.{Small, Medium, Large}
 use Rattle.geometry.specs.declared.Rectangle.{Rectangle}
-use Rattle.lists.specs.FreeLists.{Lists, listOf}
+use Rattle.buckets.specs.FreeLists.{Lists, listOf}
 use Rattle.steps.specs.State.{State, listsOf}
 use Rattle.steps.specs.declared.Head.{Head}
 use Rattle.sound.specs.View.{linkOf, seen, inUse, Live}
 use Rattle.sound.specs.Sound.{Sound, SpareChain, sheetOf}
 use Rattle.forest.specs.Pigeon.{In}
-use Rattle.starts.specs.StartWhen.{LentOf}
+use Rattle.lent.specs.Lent.{LentOf}
 use Rattle.grants.specs.Grants.{withLists}
 use Rattle.granted.specs.NewSlots.{Taking, spare-again}
 use Rattle.granted.specs.Carved.{Piece, Carving, written-used}

@@ -6,11 +6,11 @@ use mathlib.Core.Logic.{_↔_}
 use native.Mathlib.Omega.{arith}
 use Rattle.geometry.specs.declared.Extent.{Extent}
 use Rattle.slots.specs.declared.AllocIndex.{AllocIndex}
-use Rattle.search.specs.declared.Chosen.{Chosen}
-use Rattle.search.specs.declared.Chosen.the-variants.{At, Nothing}
+use Rattle.choices.specs.declared.Chosen.{Chosen}
+use Rattle.choices.specs.declared.Chosen.the-variants.{At, Nothing}
 use Rattle.steps.specs.State.{State}
 use Rattle.sound.specs.Sound.{Sound}
-use Rattle.starts.specs.StartWhen.{LentOf}
+use Rattle.lent.specs.Lent.{LentOf}
 use Rattle.grants.specs.Grants.{taken, granted}
 use Rattle.granted.specs.Terms.{Roomy, Chooses, TooFew, Enough, Refuses, GivesOut}
 use Rattle.granted.specs.Cases.{searchOf, one-chosen, not-nothing, grant-cases, chosen-picked, nothing-when, refused-sound, refused-lent, refused-refuses, cut-leaves, cut-gives-out}

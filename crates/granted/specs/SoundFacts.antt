@@ -7,27 +7,29 @@ use mathlib.Core.Bool.{false}
 use mathlib.Core.Logic.{inr}
 use native.Mathlib.Omega.{arith}
 use lib.ListN.{length, getD}
-use Rattle.geometry.specs.Cuts.{FitsIn}
+use Rattle.cuts.specs.Cuts.{FitsIn}
 use Rattle.geometry.specs.Sides.{setupOf}
 use Rattle.geometry.specs.declared.Bucket.{Bucket}
 use Rattle.geometry.specs.declared.Bucket.the-variants.{Small, Medium, Large}
 use Rattle.geometry.specs.declared.Extent.{Extent}
 use Rattle.geometry.specs.declared.Setup.{Setup}
-use Rattle.slots.specs.Slots.{slot, isNone, nodeAt, HasSlot}
+use Rattle.slots.specs.Slots.{slot, isNone}
+use Rattle.table.specs.Table.{nodeAt, HasSlot}
 use Rattle.slots.specs.declared.AllocIndex.{AllocIndex}
 use Rattle.slots.specs.declared.NodeKind.the-variants.{Free}
-use Rattle.lists.specs.FreeLists.{Lists, listOf}
+use Rattle.buckets.specs.FreeLists.{Lists, listOf}
 use Rattle.search.specs.FindLaws.{search-each, search-chosen}
-use Rattle.search.specs.Scans.{Lookable}
-use Rattle.search.specs.Search.{Searched, findSuitable, Searchable}
-use Rattle.search.specs.declared.Chosen.the-variants.{At}
+use Rattle.fits.specs.Scans.{Lookable}
+use Rattle.choices.specs.Choices.{Searched, Searchable}
+use Rattle.search.specs.Search.{findSuitable}
+use Rattle.choices.specs.declared.Chosen.the-variants.{At}
 use Rattle.steps.specs.State.{State, listsOf}
 use Rattle.sound.specs.View.{seen, Live}
 use Rattle.sound.specs.Rules.{NotEmpty}
 use Rattle.sound.specs.Sound.{Sound, sheetOf}
 use Rattle.links.specs.LinkLaws.{link-some}
 use Rattle.changes.specs.Pieces.{leaf-filled}
-use Rattle.starts.specs.StartWhen.{LentOf}
+use Rattle.lent.specs.Lent.{LentOf}
 
 -- The setup of a state.
 abbrev pub setupAt : State → Setup

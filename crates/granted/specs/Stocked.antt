@@ -8,7 +8,7 @@ use mathlib.Core.List.{List, [], _∷_}
 use native.Mathlib.Omega.{arith}
 use native.Mathlib.Decide.{ℕ-discrete}
 use lib.ListN.{length, getD}
-use Rattle.geometry.specs.Cuts.{widthOf, heightOf}
+use Rattle.geometry.specs.Rectangles.{widthOf, heightOf}
 use Rattle.geometry.specs.Sides.{setupOf}
 use Rattle.geometry.specs.declared.Bucket.{Bucket}
 use Rattle.geometry.specs.declared.Extent.{Extent}
@@ -17,12 +17,15 @@ use Rattle.geometry.specs.declared.Setup.{Setup}
 use Rattle.slots.specs.Slots.{slot}
 use Rattle.slots.specs.declared.NodeKind.the-variants.{Free}
 use Rattle.lists.specs.Counts.{occurrences}
-use Rattle.lists.specs.FreeLists.{Lists, listOf, withList, removedFrom}
-use Rattle.lists.specs.FreeListLaws.{listOf-withList-same, withList-elim}
-use Rattle.lists.specs.Lists.{Bag, removed, pushed, freeEntry, Pushable}
-use Rattle.lists.specs.OccurrenceLaws.{removed-others, place-occurs, occurs-at, push-enters, push-keeps-free}
+use Rattle.buckets.specs.FreeLists.{Lists, listOf, withList, removedFrom}
+use Rattle.buckets.specs.FreeListLaws.{listOf-withList-same, withList-elim}
+use Rattle.lists.specs.Lists.{Bag, removed, freeEntry}
+use Rattle.pushes.specs.Pushes.{pushed, Pushable}
+use Rattle.lists.specs.OccurrenceLaws.{removed-others, place-occurs, occurs-at}
+use Rattle.pushes.specs.PushedLaws.{push-enters, push-keeps-free}
 use Rattle.search.specs.FindLaws.{idealOf, search-keeps-free}
-use Rattle.search.specs.Search.{Searched, findSuitable, Searchable}
+use Rattle.choices.specs.Choices.{Searched, Searchable}
+use Rattle.search.specs.Search.{findSuitable}
 use Rattle.steps.specs.State.{State, listsOf}
 use Rattle.sound.specs.View.{seen}
 use Rattle.sound.specs.Sound.{Sound, HasEntry}
@@ -33,7 +36,7 @@ use Rattle.entries.specs.Entries.{entered}
 use Rattle.grants.specs.Grants.{piecesEntered}
 use Rattle.grants.specs.declared.Shape.{Shape}
 use Rattle.grants.specs.declared.Shape.the-variants.{Exact, Along, AlongLeft, Across, AcrossLeft}
-use Rattle.geometry.specs.declared.Cut.{Cut}
+use Rattle.cuts.specs.declared.Cut.{Cut}
 use Rattle.granted.specs.Members.{AllOf}
 use Rattle.granted.specs.Filed.{Filed, sound-filed, filed-more, search-filed, removed-filed, filed-pushable, pushed-filed}
 use Rattle.granted.specs.Carved.{Piece, slotsOf, Hold, Became, request, box, free, Carving}

@@ -6,12 +6,13 @@ use mathlib.Core.Logic.{inl, inr}
 use mathlib.Core.List.{List, [], _∷_}
 use native.Mathlib.Omega.{arith}
 use lib.ListN.{length}
-use Rattle.geometry.specs.Cuts.{flip, noRect}
-use Rattle.geometry.specs.declared.Cut.{Cut}
+use Rattle.geometry.specs.Rectangles.{flip, noRect}
+use Rattle.cuts.specs.declared.Cut.{Cut}
 use Rattle.geometry.specs.declared.Rectangle.{Rectangle}
-use Rattle.slots.specs.Slots.{slot, nodeAt, HasSlot}
-use Rattle.slots.specs.Stores.{stored, toKind}
-use Rattle.slots.specs.SlotLaws.{length-stored}
+use Rattle.slots.specs.Slots.{slot}
+use Rattle.table.specs.Table.{nodeAt, HasSlot}
+use Rattle.table.specs.Stores.{stored, toKind}
+use Rattle.table.specs.TableLaws.{length-stored}
 use Rattle.slots.specs.declared.AllocIndex.{AllocIndex}
 use Rattle.slots.specs.declared.NodeKind.the-variants.{Container, Alloc, Free}
 use Rattle.steps.specs.declared.Head.{Head}

@@ -4,22 +4,23 @@ use Prim.Native.Nat.{ℕ, _≤_, _<_}
 use mathlib.Core.Path.{_≡_}
 use mathlib.Core.Logic.{_⊎_}
 use lib.ListN.{length, getD}
-use Rattle.geometry.specs.Cuts.{noRect, widthOf, heightOf, cutOf}
-use Rattle.geometry.specs.PieceLaws.{Inside}
+use Rattle.geometry.specs.Rectangles.{noRect, widthOf, heightOf}
+use Rattle.cuts.specs.Cuts.{cutOf}
+use Rattle.cuts.specs.PieceLaws.{Inside}
 use Rattle.geometry.specs.declared.Bucket.{Bucket}
-use Rattle.geometry.specs.declared.Cut.{Cut}
+use Rattle.cuts.specs.declared.Cut.{Cut}
 use Rattle.geometry.specs.declared.Extent.{Extent}
-use Rattle.slots.specs.Slots.{nodeAt}
-use Rattle.slots.specs.Tickets.{slotOf, generationOf}
-use Rattle.slots.specs.declared.AllocId.{AllocId}
+use Rattle.table.specs.Table.{nodeAt}
+use Rattle.tickets.specs.Tickets.{slotOf, generationOf}
+use Rattle.tickets.specs.declared.AllocId.{AllocId}
 use Rattle.slots.specs.declared.AllocIndex.{AllocIndex}
 use Rattle.slots.specs.declared.NodeKind.the-variants.{Alloc}
-use Rattle.lists.specs.FreeLists.{listOf}
-use Rattle.lists.specs.declared.Lengths.{Lengths}
+use Rattle.buckets.specs.FreeLists.{listOf}
+use Rattle.buckets.specs.declared.Lengths.{Lengths}
 use Rattle.search.specs.Search.{findSuitable}
-use Rattle.search.specs.Suits.{Suits}
-use Rattle.search.specs.Thinned.{Thinned}
-use Rattle.search.specs.declared.Chosen.the-variants.{At}
+use Rattle.fits.specs.Suits.{Suits}
+use Rattle.fits.specs.Thinned.{Thinned}
+use Rattle.choices.specs.declared.Chosen.the-variants.{At}
 use Rattle.steps.specs.Spares.{spareSlots}
 use Rattle.steps.specs.State.{State, listsOf}
 use Rattle.steps.specs.declared.Head.{Head}

@@ -6,18 +6,19 @@ use mathlib.Core.Logic.{_⊎_, inl, inr, ⊎-elim}
 use mathlib.Core.List.{List, _∷_}
 use native.Mathlib.Omega.{arith}
 use lib.ListN.{getD}
-use Rattle.geometry.specs.Cuts.{atCorner}
-use Rattle.geometry.specs.PieceLaws.{Inside}
+use Rattle.cuts.specs.Cuts.{atCorner}
+use Rattle.cuts.specs.PieceLaws.{Inside}
 use Rattle.geometry.specs.declared.Bucket.{Bucket}
 use Rattle.geometry.specs.declared.Extent.{Extent}
-use Rattle.slots.specs.Slots.{slot, nodeAt}
-use Rattle.slots.specs.TicketLaws.{ticket-together, ticket-slot, ticket-generation}
-use Rattle.slots.specs.Tickets.{slotOf, generationOf}
-use Rattle.slots.specs.declared.AllocId.{AllocId}
+use Rattle.slots.specs.Slots.{slot}
+use Rattle.table.specs.Table.{nodeAt}
+use Rattle.tickets.specs.TicketLaws.{ticket-together, ticket-slot, ticket-generation}
+use Rattle.tickets.specs.Tickets.{slotOf, generationOf}
+use Rattle.tickets.specs.declared.AllocId.{AllocId}
 use Rattle.slots.specs.declared.AllocIndex.{AllocIndex}
 use Rattle.slots.specs.declared.NodeKind.{NodeKind}
 use Rattle.slots.specs.declared.NodeKind.the-variants.{Container, Alloc, Free}
-use Rattle.lists.specs.FreeLists.{Lists}
+use Rattle.buckets.specs.FreeLists.{Lists}
 use Rattle.steps.specs.State.{State}
 use Rattle.sound.specs.View.{Seen, seen, inUse}
 use Rattle.sound.specs.Sound.{Sound}

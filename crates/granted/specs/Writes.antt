@@ -10,9 +10,10 @@ use lib.ListN.{length}
 use Rattle.geometry.specs.Choice.{pick-elim}
 use Rattle.geometry.specs.declared.Orientation.{Orientation}
 use Rattle.geometry.specs.declared.Rectangle.{Rectangle}
-use Rattle.slots.specs.Slots.{slot, isNone, nodeAt, HasSlot}
-use Rattle.slots.specs.Stores.{Store, toNext, toPrev, toKind, toRect, toNode, stored, after}
-use Rattle.slots.specs.SlotLaws.{length-stored, has-stored, nodeAt-stored-same, nodeAt-stored-other}
+use Rattle.slots.specs.Slots.{slot, isNone}
+use Rattle.table.specs.Table.{nodeAt, HasSlot}
+use Rattle.table.specs.Stores.{Store, toNext, toPrev, toKind, toRect, toNode, stored, after}
+use Rattle.table.specs.TableLaws.{length-stored, has-stored, nodeAt-stored-same, nodeAt-stored-other}
 use Rattle.slots.specs.declared.AllocIndex.{AllocIndex}
 use Rattle.slots.specs.declared.NodeKind.{NodeKind}
 use Rattle.slots.specs.declared.NodeKind.the-variants.{Alloc, Free}

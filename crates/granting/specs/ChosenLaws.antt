@@ -9,28 +9,30 @@ use lib.Dec.{leb}
 use lib.ListN.{length}
 use borrow.Author.Tests.{leb-true}
 use Rattle.geometry.specs.Choice.{pick-elim}
-use Rattle.geometry.specs.Cuts.{FitsIn, exactFit, cutWay, splitOf, leftoverOf, atCorner, cutOf}
+use Rattle.cuts.specs.Cuts.{FitsIn, exactFit, cutWay, splitOf, leftoverOf, atCorner, cutOf}
 use Rattle.geometry.specs.declared.Bucket.{Bucket}
-use Rattle.geometry.specs.declared.Cut.{Cut}
+use Rattle.cuts.specs.declared.Cut.{Cut}
 use Rattle.geometry.specs.declared.Extent.{Extent}
 use Rattle.geometry.specs.declared.Orientation.{Orientation}
 use Rattle.geometry.specs.declared.Orientation.the-variants.{Vertical, Horizontal}
 use Rattle.geometry.specs.declared.Rectangle.{Rectangle}
 use Rattle.geometry.specs.declared.Setup.{Setup}
-use Rattle.slots.specs.Slots.{slot, nodeAt, isNone, HasSlot}
+use Rattle.slots.specs.Slots.{slot, isNone}
+use Rattle.table.specs.Table.{nodeAt, HasSlot}
 use Rattle.slots.specs.declared.AllocIndex.{AllocIndex}
 use Rattle.slots.specs.declared.Node.{Node}
-use Rattle.lists.specs.FreeLists.{Lists, listOf}
+use Rattle.buckets.specs.FreeLists.{Lists, listOf}
 use Rattle.search.specs.FindLaws.{search-within, search-each}
-use Rattle.search.specs.Search.{Searched, findSuitable}
-use Rattle.search.specs.declared.Chosen.the-variants.{At, Nothing}
+use Rattle.choices.specs.Choices.{Searched}
+use Rattle.search.specs.Search.{findSuitable}
+use Rattle.choices.specs.declared.Chosen.the-variants.{At, Nothing}
 use Rattle.steps.specs.Spares.{newNode, spareSlots}
 use Rattle.steps.specs.State.{State, state, listsOf}
 use Rattle.steps.specs.declared.Head.{Head}
 use Rattle.sound.specs.View.{linkOf, seen}
 use Rattle.sound.specs.Sound.{Sound}
 use Rattle.links.specs.LinkLaws.{link-some}
-use Rattle.starts.specs.StartWhen.{LentOf}
+use Rattle.lent.specs.Lent.{LentOf}
 use Rattle.entries.specs.Entries.{ListReady, ListsReady}
 use Rattle.grants.specs.Grants.{Grant, refused, withLists, taken, cutFor, grantOf, granted}
 use Rattle.grants.specs.Shapes.{shapeOf, slotsNeeded}

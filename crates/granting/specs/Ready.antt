@@ -6,15 +6,15 @@ use mathlib.Core.List.{List}
 use Prim.Native.Nat.{ℕ, _*_, _≤_, _<_}
 use lib.ListN.{length}
 use Rattle.geometry.specs.Choice.{pick}
-use Rattle.geometry.specs.Cuts.{FitsIn}
+use Rattle.cuts.specs.Cuts.{FitsIn}
 use Rattle.geometry.specs.declared.Bucket.{Bucket}
-use Rattle.geometry.specs.declared.Cut.{Cut}
+use Rattle.cuts.specs.declared.Cut.{Cut}
 use Rattle.geometry.specs.declared.Extent.{Extent}
 use Rattle.geometry.specs.declared.Rectangle.{Rectangle}
 use Rattle.geometry.specs.declared.Setup.{Setup}
-use Rattle.slots.specs.Slots.{nodeAt, HasSlot}
+use Rattle.table.specs.Table.{nodeAt, HasSlot}
 use Rattle.slots.specs.declared.AllocIndex.{AllocIndex}
-use Rattle.lists.specs.FreeLists.{Lists, listOf, Within}
+use Rattle.buckets.specs.FreeLists.{Lists, listOf, Within}
 use Rattle.steps.specs.declared.Head.{Head}
 use Rattle.entries.specs.Entries.{entered, ListsReady}
 use Rattle.grants.specs.Shapes.{slotsNeeded}

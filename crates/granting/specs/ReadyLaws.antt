@@ -10,14 +10,14 @@ use lib.ListN.{length, getD, length-set}
 use borrow.Author.Tests.{ltb-true, ltb-false}
 use Rattle.geometry.specs.Choice.{pick-elim}
 use Rattle.geometry.specs.declared.Bucket.{Bucket}
-use Rattle.geometry.specs.declared.Cut.{Cut}
+use Rattle.cuts.specs.declared.Cut.{Cut}
 use Rattle.geometry.specs.declared.Rectangle.{Rectangle}
 use Rattle.geometry.specs.declared.Setup.{Setup}
-use Rattle.slots.specs.Slots.{HasSlot}
-use Rattle.slots.specs.Tickets.{ticketOf}
-use Rattle.slots.specs.declared.AllocId.{AllocId}
+use Rattle.table.specs.Table.{HasSlot}
+use Rattle.tickets.specs.Tickets.{ticketOf}
+use Rattle.tickets.specs.declared.AllocId.{AllocId}
 use Rattle.slots.specs.declared.AllocIndex.{AllocIndex}
-use Rattle.lists.specs.FreeLists.{Lists, Within, removedFrom}
+use Rattle.buckets.specs.FreeLists.{Lists, Within, removedFrom}
 use Rattle.steps.specs.Spares.{Fresh, newNode, HasSpare}
 use Rattle.steps.specs.State.{State}
 use Rattle.steps.specs.declared.Head.{Head}

@@ -1,21 +1,21 @@
 // Allocate on sound tables: search, spare-slot count, cut, slots in creation order, pushes.
+use buckets::Lengths;
+use choices::Chosen;
+use cuts::Cut;
 use geometry::Bucket;
-use geometry::Cut;
 use geometry::Extent;
 use geometry::Rectangle;
 use geometry::Setup;
 use grants::Shape;
-use lists::Lengths;
-use search::Chosen;
-use slots::AllocId;
 use slots::AllocIndex;
 use steps::Head;
+use tickets::AllocId;
 ghost use mathlib.Core.Path.{_≡_};
-ghost use Rattle.geometry.specs.Cuts.{noRect};
-ghost use Rattle.lists.specs.FreeLists.{lists};
+ghost use Rattle.geometry.specs.Rectangles.{noRect};
+ghost use Rattle.buckets.specs.FreeLists.{lists};
 ghost use Rattle.steps.specs.State.{state};
 ghost use Rattle.sound.specs.Sound.{Sound};
-ghost use Rattle.starts.specs.StartWhen.{LentOf};
+ghost use Rattle.lent.specs.Lent.{LentOf};
 ghost use Rattle.grants.specs.Grants.{noTicket, grant, taken, cutFor, granted};
 ghost use Rattle.granting.specs.Ready.{hasSplit, hasLeft, piecesOf, PiecesReady, TakeReady, ChosenReady};
 
@@ -147,7 +147,7 @@ fn take_chosen(
     let left = new.left;
     let mut after = new.head;
     carves::carve(shape, words, i, new, rect, cut);
-    let less = lists::remove_from(small, medium, large, lengths, bucket, k);
+    let less = buckets::remove_from(small, medium, large, lengths, bucket, k);
     let more = enter_pieces(
         shape,
         words,
@@ -162,7 +162,7 @@ fn take_chosen(
     );
     after.lengths = more;
     let at = alloc.0 as usize;
-    let id = slots::alloc_id(alloc, generations[at]);
+    let id = tickets::alloc_id(alloc, generations[at]);
     Allocation {
         answer: 0,
         id: id,
@@ -192,10 +192,10 @@ fn cut_for(
         ≡ cutFor (state head (now (words .entry)) (now (generations .entry)) (now (small .entry)) (now (medium .entry)) (now (large .entry)))
         setup (lists lengths (now (small .entry)) (now (medium .entry)) (now (large .entry))) request i bucket k ⌝ }
 {
-    let node = slots::node_at(words, i);
+    let node = table::node_at(words, i);
     let chosen = node.rect;
     let o = node.orientation;
-    let cut = geometry::guillotine_rect(chosen, request.width, request.height, o);
+    let cut = cuts::guillotine_rect(chosen, request.width, request.height, o);
     let shape = grants::shape_of(cut, o);
     let need = grants::slots_needed(shape);
     let total = generations.len() as u32;

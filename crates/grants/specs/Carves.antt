@@ -3,12 +3,13 @@
 use mathlib.Core.List.{List}
 use Prim.Native.Nat.{ℕ}
 use Rattle.geometry.specs.Choice.{pick}
-use Rattle.geometry.specs.Cuts.{flip, noRect}
-use Rattle.geometry.specs.declared.Cut.{Cut}
+use Rattle.geometry.specs.Rectangles.{flip, noRect}
+use Rattle.cuts.specs.declared.Cut.{Cut}
 use Rattle.geometry.specs.declared.Orientation.{Orientation}
 use Rattle.geometry.specs.declared.Rectangle.{Rectangle}
-use Rattle.slots.specs.Slots.{none, isNone, nodeAt}
-use Rattle.slots.specs.Stores.{stored, toNext, toPrev, toKind, toRect, toNode}
+use Rattle.slots.specs.Slots.{none, isNone}
+use Rattle.table.specs.Table.{nodeAt}
+use Rattle.table.specs.Stores.{stored, toNext, toPrev, toKind, toRect, toNode}
 use Rattle.slots.specs.declared.AllocIndex.{AllocIndex}
 use Rattle.slots.specs.declared.Node.{Node}
 use Rattle.slots.specs.declared.NodeKind.{NodeKind}

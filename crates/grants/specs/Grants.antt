@@ -5,22 +5,24 @@ use Prim.Native.Nat.{ℕ}
 use lib.ListN.{length, getD}
 use lib.Dec.{leb}
 use Rattle.geometry.specs.Choice.{pick}
-use Rattle.geometry.specs.Cuts.{noRect, atCorner, cutOf}
+use Rattle.geometry.specs.Rectangles.{noRect}
+use Rattle.cuts.specs.Cuts.{atCorner, cutOf}
 use Rattle.geometry.specs.Sides.{setupOf}
 use Rattle.geometry.specs.declared.Bucket.{Bucket}
-use Rattle.geometry.specs.declared.Cut.{Cut}
+use Rattle.cuts.specs.declared.Cut.{Cut}
 use Rattle.geometry.specs.declared.Extent.{Extent}
 use Rattle.geometry.specs.declared.Rectangle.{Rectangle}
 use Rattle.geometry.specs.declared.Setup.{Setup}
-use Rattle.slots.specs.Slots.{nodeAt}
-use Rattle.slots.specs.Tickets.{ticketOf}
-use Rattle.slots.specs.declared.AllocId.{AllocId}
+use Rattle.table.specs.Table.{nodeAt}
+use Rattle.tickets.specs.Tickets.{ticketOf}
+use Rattle.tickets.specs.declared.AllocId.{AllocId}
 use Rattle.slots.specs.declared.AllocIndex.{AllocIndex}
-use Rattle.lists.specs.FreeLists.{Lists, removedFrom}
+use Rattle.buckets.specs.FreeLists.{Lists, removedFrom}
 use Rattle.entries.specs.Entries.{entered}
-use Rattle.search.specs.Search.{Searched, findSuitable}
-use Rattle.search.specs.declared.Chosen.{Chosen}
-use Rattle.search.specs.declared.Chosen.the-variants.{At, Nothing}
+use Rattle.choices.specs.Choices.{Searched}
+use Rattle.search.specs.Search.{findSuitable}
+use Rattle.choices.specs.declared.Chosen.{Chosen}
+use Rattle.choices.specs.declared.Chosen.the-variants.{At, Nothing}
 use Rattle.steps.specs.Spares.{spareSlots}
 use Rattle.steps.specs.State.{State, state, listsOf}
 use Rattle.steps.specs.declared.Head.{Head}

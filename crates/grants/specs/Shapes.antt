@@ -2,8 +2,8 @@
 -- Assumes nothing.
 use Prim.Native.Nat.{ℕ}
 use Rattle.geometry.specs.Choice.{pick}
-use Rattle.geometry.specs.Cuts.{emptyRect}
-use Rattle.geometry.specs.declared.Cut.{Cut}
+use Rattle.geometry.specs.Rectangles.{emptyRect}
+use Rattle.cuts.specs.declared.Cut.{Cut}
 use Rattle.geometry.specs.declared.Orientation.{Orientation}
 use Rattle.slots.specs.Slots.{sameOrientation}
 use Rattle.grants.specs.declared.Shape.{Shape}

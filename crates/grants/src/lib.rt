@@ -1,5 +1,5 @@
 // The shape of a cut, and how many new slots it needs.
-use geometry::Cut;
+use cuts::Cut;
 use geometry::Orientation;
 ghost use mathlib.Core.Path.{_≡_};
 ghost use Prim.Native.Nat.{_≤_};

@@ -6,7 +6,7 @@ use mathlib.Core.List.{List}
 use Prim.Native.Nat.{ℕ, zero, suc, _+_, _-_}
 use lib.Dec.{ltb}
 use Rattle.geometry.specs.Choice.{pick}
-use Rattle.geometry.specs.Cuts.{flip, noRect}
+use Rattle.geometry.specs.Rectangles.{flip, noRect}
 use Rattle.geometry.specs.Sides.{natural, setupOf}
 use Rattle.geometry.specs.declared.Extent.{Extent}
 use Rattle.geometry.specs.declared.Orientation.{Orientation}
@@ -14,13 +14,14 @@ use Rattle.geometry.specs.declared.Orientation.the-variants.{Vertical, Horizont
 use Rattle.geometry.specs.declared.Rectangle.{Rectangle}
 use Rattle.geometry.specs.declared.Setup.{Setup}
 use Rattle.geometry.specs.declared.Size.{Size}
-use Rattle.slots.specs.Slots.{none, isNone, nodeAt}
-use Rattle.slots.specs.Stores.{stored, toParent, toNext, toRect, toNode}
+use Rattle.slots.specs.Slots.{none, isNone}
+use Rattle.table.specs.Table.{nodeAt}
+use Rattle.table.specs.Stores.{stored, toParent, toNext, toRect, toNode}
 use Rattle.slots.specs.declared.AllocIndex.{AllocIndex}
 use Rattle.slots.specs.declared.Node.{Node}
 use Rattle.slots.specs.declared.NodeKind.the-variants.{Container, Free}
 use Rattle.lists.specs.Lists.{freeEntry}
-use Rattle.lists.specs.FreeLists.{Lists, forgotten}
+use Rattle.buckets.specs.FreeLists.{Lists, forgotten}
 use Rattle.steps.specs.Spares.{newNode}
 use Rattle.steps.specs.State.{State, state, listsOf}
 use Rattle.steps.specs.declared.Head.{Head}

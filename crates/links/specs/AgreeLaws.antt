@@ -7,8 +7,9 @@ use mathlib.Core.Logic.{_↔_}
 use Prim.Native.Nat.{ℕ, _<_}
 use native.Mathlib.Omega.{arith}
 use lib.ListN.{getD}
-use Rattle.geometry.specs.Cuts.{flip}
-use Rattle.slots.specs.Slots.{slot, isNone, nodeAt}
+use Rattle.geometry.specs.Rectangles.{flip}
+use Rattle.slots.specs.Slots.{slot, isNone}
+use Rattle.table.specs.Table.{nodeAt}
 use Rattle.slots.specs.declared.NodeKind.the-variants.{Container}
 use Rattle.sound.specs.View.{none, to, Seen, seen, Live}
 use Rattle.links.specs.Links.{Table, nextAgrees, prevAgrees, parentAgrees, childAgrees, firstAgrees, rootAgrees, linksSane, siblingsAgree, familyAgrees, linksAt}

@@ -12,7 +12,8 @@ use lib.Seq.{getD-set-same, getD-set-other, getD-take, length-take-le}
 use lib.Dec.{eqb}
 use borrow.Author.Tests.{eqb-true, eq-eqb, ne-eqb}
 use Rattle.geometry.specs.Choice.{pick}
-use Rattle.slots.specs.Slots.{slot, isNone, nodeAt}
+use Rattle.slots.specs.Slots.{slot, isNone}
+use Rattle.table.specs.Table.{nodeAt}
 use Rattle.sound.specs.View.{none, to, linkOf, seen, Live}
 use Rattle.sound.specs.Rules.{FirstChild}
 use Rattle.links.specs.Links.{Table, isFirst, entered, firstsTo}

@@ -7,8 +7,9 @@ use Prim.Native.Nat.{ℕ, zero, suc, _*_, _≤_, _<_}
 use lib.ListN.{length, getD, set}
 use lib.Dec.{eqb, ltb, leb}
 use Rattle.geometry.specs.Choice.{pick}
-use Rattle.geometry.specs.Cuts.{flip}
-use Rattle.slots.specs.Slots.{slot, isNone, sameKind, sameOrientation, nodeAt, HasSlot}
+use Rattle.geometry.specs.Rectangles.{flip}
+use Rattle.slots.specs.Slots.{slot, isNone, sameKind, sameOrientation}
+use Rattle.table.specs.Table.{nodeAt, HasSlot}
 use Rattle.slots.specs.declared.AllocIndex.{AllocIndex}
 use Rattle.slots.specs.declared.Node.{Node}
 use Rattle.slots.specs.declared.NodeKind.the-variants.{Container, Free, Unused}

@@ -9,7 +9,8 @@ use native.Mathlib.Omega.{arith}
 use lib.Dec.{leb}
 use borrow.Author.Tests.{le-leb, lt-leb, eqb-true}
 use Rattle.geometry.specs.Choice.{pick}
-use Rattle.slots.specs.Slots.{slot, isNone, sameKind, nodeAt}
+use Rattle.slots.specs.Slots.{slot, isNone, sameKind}
+use Rattle.table.specs.Table.{nodeAt}
 use Rattle.slots.specs.declared.Node.{Node}
 use Rattle.slots.specs.declared.NodeKind.the-variants.{Free}
 use Rattle.sound.specs.View.{none, to, linkOf, Seen, seen, inUse, Live}

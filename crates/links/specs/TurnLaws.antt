@@ -11,7 +11,8 @@ use lib.Dec.{ltb}
 use borrow.Author.Tests.{ltb-true, lt-ltb, le-ltb}
 use Rattle.geometry.specs.Choice.{pick-elim}
 use Rattle.geometry.specs.TestLaws.{and-true-each}
-use Rattle.slots.specs.Slots.{slot, isNone, sameKind, nodeAt}
+use Rattle.slots.specs.Slots.{slot, isNone, sameKind}
+use Rattle.table.specs.Table.{nodeAt}
 use Rattle.slots.specs.declared.AllocIndex.{AllocIndex}
 use Rattle.slots.specs.declared.Node.{Node}
 use Rattle.slots.specs.declared.NodeKind.the-variants.{Unused}

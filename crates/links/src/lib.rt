@@ -5,7 +5,8 @@ use slots::NodeKind;
 ghost use mathlib.Core.Path.{_≡_};
 ghost use Prim.Native.Nat.{_*_, _≤_, _<_};
 ghost use lib.ListN.{length};
-ghost use Rattle.slots.specs.Slots.{nodeAt, slot, HasSlot};
+ghost use Rattle.table.specs.Table.{nodeAt, HasSlot};
+ghost use Rattle.slots.specs.Slots.{slot};
 ghost use Rattle.links.specs.Links.{liveAt, linkAt, spareWalk, isFirst, entered, firstsTo, nextAgrees, prevAgrees, parentAgrees, childAgrees, firstAgrees, rootAgrees, linksSane, siblingsAgree, familyAgrees, linksAt, mergedAt, Table, NamesSlot, NamesPlace};
 
 // Whether slot i is live: below n and not Unused.
@@ -16,7 +17,7 @@ pub fn is_live(words: &[u32], n: u32, i: AllocIndex) -> bool
     if i.0 >= n {
         return false;
     }
-    let node = slots::node_at(words, i);
+    let node = table::node_at(words, i);
     let kind = node.kind;
     if slots::same_kind(kind, NodeKind::Unused) {
         return false;
@@ -46,7 +47,7 @@ pub fn spare_walk(words: &[u32], n: u32, spare: AllocIndex, unused: u32) -> bool
         if at.0 >= n {
             return false;
         }
-        let node = slots::node_at(words, at);
+        let node = table::node_at(words, at);
         let kind = node.kind;
         if !slots::same_kind(kind, NodeKind::Unused) {
             return false;
@@ -62,7 +63,7 @@ fn is_first(words: &[u32], n: u32, i: AllocIndex) -> bool
     requires { ⌜ Table (now words) n × (i .0 < n) ⌝ }
     ensures { λ r. ⌜ r ≡ isFirst (now (words .entry)) n (i .0) ⌝ }
 {
-    let node = slots::node_at(words, i);
+    let node = table::node_at(words, i);
     let kind = node.kind;
     if slots::same_kind(kind, NodeKind::Unused) {
         return false;
@@ -81,7 +82,7 @@ fn enter(words: &[u32], firsts: &mut [u32], n: u32, i: AllocIndex)
     ensures { λ _. ⌜ now (firsts .exit) ≡ entered (now (words .entry)) n (i .0) (now (firsts .entry)) ⌝ }
 {
     if is_first(words, n, i) {
-        let node = slots::node_at(words, i);
+        let node = table::node_at(words, i);
         let parent = node.parent;
         let at = parent.0 as usize;
         firsts[at] = i.0;
@@ -109,7 +110,7 @@ fn next_agrees(words: &[u32], i: AllocIndex, node: Node) -> bool
     if slots::is_none(next) {
         return true;
     }
-    let other = slots::node_at(words, next);
+    let other = table::node_at(words, next);
     if other.prev.0 != i.0 {
         return false;
     }
@@ -129,7 +130,7 @@ fn prev_agrees(words: &[u32], i: AllocIndex, node: Node) -> bool
     if slots::is_none(prev) {
         return true;
     }
-    let other = slots::node_at(words, prev);
+    let other = table::node_at(words, prev);
     other.next.0 == i.0
 }
 
@@ -142,7 +143,7 @@ fn parent_agrees(words: &[u32], node: Node) -> bool
     if slots::is_none(parent) {
         return true;
     }
-    let above = slots::node_at(words, parent);
+    let above = table::node_at(words, parent);
     let above_kind = above.kind;
     if !slots::same_kind(above_kind, NodeKind::Container) {
         return false;
@@ -250,7 +251,7 @@ pub fn links_at(words: &[u32], firsts: &[u32], n: u32, root: AllocIndex, i: Allo
     if !is_live(words, n, i) {
         return true;
     }
-    let node = slots::node_at(words, i);
+    let node = table::node_at(words, i);
     if !links_sane(words, n, node) {
         return false;
     }
@@ -265,7 +266,7 @@ pub fn merged_at(words: &[u32], n: u32, i: AllocIndex) -> bool
     requires { ⌜ Table (now words) n × (i .0 < n) ⌝ }
     ensures { λ r. ⌜ r ≡ mergedAt (now (words .entry)) n (i .0) ⌝ }
 {
-    let node = slots::node_at(words, i);
+    let node = table::node_at(words, i);
     let kind = node.kind;
     if !slots::same_kind(kind, NodeKind::Free) {
         return true;
@@ -279,7 +280,7 @@ pub fn merged_at(words: &[u32], n: u32, i: AllocIndex) -> bool
         }
         return true;
     }
-    let other = slots::node_at(words, next);
+    let other = table::node_at(words, next);
     let beside = other.kind;
     !slots::same_kind(beside, NodeKind::Free)
 }

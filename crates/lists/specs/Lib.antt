@@ -1,13 +1,6 @@
 pub mod Lists
-pub mod Sweeps
-pub mod FreeLists
 pub mod Counts
 pub mod CountLaws
 pub mod FirstLaws
-pub mod SweepLaws
-pub mod RoomLaws
 pub mod ListLaws
-pub mod PushLaws
 pub mod OccurrenceLaws
-pub mod FreeListLaws
-pub mod ForgetLaws

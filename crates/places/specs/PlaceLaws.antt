@@ -8,7 +8,7 @@ use Prim.Native.Nat.{ℕ, _+_, _≤_}
 use native.Mathlib.Omega.{arith}
 use lib.Dec.{eqb, leb}
 use borrow.Author.Tests.{eqb-true, eq-eqb, leb-true, leb-false}
-use Rattle.geometry.specs.Cuts.{emptyRect}
+use Rattle.geometry.specs.Rectangles.{emptyRect}
 use Rattle.geometry.specs.TestLaws.{and-true-each, or-true-one, or-false-each}
 use Rattle.geometry.specs.declared.Orientation.{Orientation}
 use Rattle.geometry.specs.declared.Orientation.the-variants.{Vertical, Horizontal}

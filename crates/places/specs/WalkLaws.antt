@@ -9,13 +9,14 @@ use native.Mathlib.Omega.{arith}
 use lib.ListN.{length, getD}
 use borrow.Author.Tests.{lt-ltb, ltb-true, eqb-true, eq-eqb, ne-eqb}
 use Rattle.geometry.specs.Choice.{pick}
-use Rattle.geometry.specs.Cuts.{flip, emptyRect}
+use Rattle.geometry.specs.Rectangles.{flip, emptyRect}
 use Rattle.geometry.specs.TestLaws.{and-true-each}
 use Rattle.geometry.specs.declared.Orientation.{Orientation}
 use Rattle.geometry.specs.declared.Orientation.the-variants.{Vertical, Horizontal}
 use Rattle.geometry.specs.declared.Rectangle.{Rectangle}
 use Rattle.slots.specs.Slots as slots
-use Rattle.slots.specs.Slots.{isNone, sameKind, nodeAt}
+use Rattle.slots.specs.Slots.{isNone, sameKind}
+use Rattle.table.specs.Table.{nodeAt}
 use Rattle.slots.specs.declared.AllocIndex.{AllocIndex}
 use Rattle.slots.specs.declared.Node.{Node}
 use Rattle.slots.specs.declared.NodeKind.{NodeKind}

@@ -225,7 +225,7 @@ fn lone_at(words: &[u32], n: usize, c: AllocIndex, parent: AllocIndex, o: Orient
     if c.0 as usize >= n {
         return false;
     }
-    let node = slots::node_at(words, c);
+    let node = table::node_at(words, c);
     is_lone(node, parent, o)
 }
 
@@ -337,7 +337,7 @@ pub fn place_of_chain(
         if !is_held(firsts.len(), i, rest) {
             return out_of_slots();
         }
-        let node = slots::node_at(words, i);
+        let node = table::node_at(words, i);
         if !stands(node, parent, prev, o) {
             return out_of_slots();
         }

@@ -1,7 +1,7 @@
 // Whether our state is the one that the list tells of, wherever that says anything: below the slot count and the lengths.
+use buckets::Lengths;
 use geometry::AllocatorOptions;
 use geometry::Size;
-use lists::Lengths;
 use slots::AllocIndex;
 use starts::Begun;
 use steps::Head;

@@ -4,9 +4,9 @@ use crate::verdict::told;
 use geometry::Bucket;
 use geometry::Orientation;
 use geometry::Rectangle;
-use geometry::Rounded;
+use rounding::Rounded;
 ghost use Prim.Native.Nat.{_+_, _<_};
-ghost use Rattle.geometry.specs.Cuts.{FitsIn};
+ghost use Rattle.cuts.specs.Cuts.{FitsIn};
 
 fn rank(bucket: Bucket) -> u32 {
     match bucket {
@@ -42,7 +42,7 @@ pub fn rounding(line: &[u32; 128]) -> Verdict {
     if alignment == 0 {
         return Verdict::Fault;
     }
-    let ours = geometry::adjust_size(alignment, side);
+    let ours = rounding::adjust_size(alignment, side);
     match ours {
         Rounded::To(up) => told(up == line[3]),
         Rounded::Over => Verdict::Differs,
@@ -85,7 +85,7 @@ fn orientation_of(number: u32) -> Orientation {
 fn is_cut(line: &[u32; 128], chosen: Rectangle, w: u32, h: u32) -> bool
     requires { ⌜ FitsIn chosen w h ⌝ }
 {
-    let cut = geometry::guillotine_rect(chosen, w, h, orientation_of(line[7]));
+    let cut = cuts::guillotine_rect(chosen, w, h, orientation_of(line[7]));
     let split = cut.split;
     if !same_rect(split, rect_at(line, 8)) {
         return false;

@@ -1,8 +1,8 @@
 // What is read off the state that the list tells of: our "is it empty" and our lookup, held against the list.
 use crate::leaves;
 use geometry::Rectangle;
-use slots::AllocId;
 use steps::Head;
+use tickets::AllocId;
 use views::Emptiness;
 use views::Looked;
 

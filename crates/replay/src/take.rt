@@ -146,10 +146,10 @@ fn ticket(
     head: Head,
 ) -> Verdict {
     match line[0] {
-        2 => tickets::allocate(line),
+        2 => replay::allocate(line),
         3 => {
             if looks::is_live(words, generations, lists, head, line[1]) {
-                return tickets::deallocate(line);
+                return replay::deallocate(line);
             }
             Verdict::Differs
         }

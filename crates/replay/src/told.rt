@@ -1,8 +1,8 @@
 // The state that the list tells of: its tables, of 256 slots and 1,024 entries a list, and the head. A change at a place
 // that the tables don't have, or to a number that they can't have, is not made.
+use buckets::Lengths;
 use geometry::AllocatorOptions;
 use geometry::Size;
-use lists::Lengths;
 use slots::AllocIndex;
 use steps::Head;
 ghost use Prim.Native.Nat.{_+_, _<_};

@@ -14,7 +14,7 @@ use Rattle.geometry.specs.Buckets.{rank}
 use Rattle.geometry.specs.declared.Bucket.{Bucket}
 use Rattle.geometry.specs.declared.Bucket.the-variants.{Small, Medium, Large}
 use Rattle.lists.specs.Lists.{bag, Each, occurs}
-use Rattle.lists.specs.FreeLists.{Lists, listOf}
+use Rattle.buckets.specs.FreeLists.{Lists, listOf}
 use Rattle.links.specs.TestLaws.{Says}
 use Rattle.scans.specs.Tests.{marksStart, isMarked}
 use Rattle.scans.specs.Marks.{marksTo, marksFrom, marksOf, ListsReady}

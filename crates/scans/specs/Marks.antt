@@ -6,7 +6,7 @@ use lib.ListN.{getD, set, replicate}
 use Rattle.geometry.specs.declared.Bucket.{Bucket}
 use Rattle.geometry.specs.declared.Bucket.the-variants.{Small, Medium, Large}
 use Rattle.lists.specs.Lists.{Each}
-use Rattle.lists.specs.FreeLists.{Lists, listOf, Within}
+use Rattle.buckets.specs.FreeLists.{Lists, listOf, Within}
 use Rattle.scans.specs.Tests.{marksStart}
 
 -- The slots of the first k entries are marked, with marks that start at s.

@@ -1,15 +1,15 @@
 // The tests that the check makes of each slot and each list entry, the scans for the lowest that fails one, and the marks of rule 6.
+use buckets::Lengths;
 use geometry::Bucket;
 use geometry::Setup;
-use lists::Lengths;
 use slots::AllocIndex;
 use slots::NodeKind;
 ghost use mathlib.Core.Path.{_≡_};
 ghost use Prim.Native.Nat.{_-_, _≤_, _<_};
 ghost use lib.ListN.{length};
-ghost use Rattle.slots.specs.Slots.{HasSlot};
+ghost use Rattle.table.specs.Table.{HasSlot};
 ghost use Rattle.lists.specs.Lists.{bag, Each};
-ghost use Rattle.lists.specs.FreeLists.{lists};
+ghost use Rattle.buckets.specs.FreeLists.{lists};
 ghost use Rattle.links.specs.Links.{Table};
 ghost use Rattle.scans.specs.Tests.{marksStart, filledAt, listedAt, notLastAt, settledAt, holdsAt, firstFrom, entryBelow};
 ghost use Rattle.scans.specs.Marks.{marksTo, marksFrom, ListsReady};
@@ -50,7 +50,7 @@ fn filled_at(words: &[u32], i: AllocIndex) -> bool
     requires { ⌜ HasSlot (now words) i ⌝ }
     ensures { λ r. ⌜ r ≡ filledAt (now (words .entry)) (i .0) ⌝ }
 {
-    let node = slots::node_at(words, i);
+    let node = table::node_at(words, i);
     let kind = node.kind;
     let rect = node.rect;
     match kind {
@@ -66,7 +66,7 @@ fn listed_at(words: &[u32], marks: &[u8], setup: Setup, i: AllocIndex) -> bool
     requires { ⌜ HasSlot (now words) i × (12288 ≤ length (now marks)) × (i .0 < 4096) ⌝ }
     ensures { λ r. ⌜ r ≡ listedAt (now (words .entry)) (now (marks .entry)) setup (i .0) ⌝ }
 {
-    let node = slots::node_at(words, i);
+    let node = table::node_at(words, i);
     let kind = node.kind;
     let rect = node.rect;
     if !slots::same_kind(kind, NodeKind::Free) {
@@ -90,7 +90,7 @@ fn not_last_at(words: &[u32], n: u32, i: AllocIndex) -> bool
     if !links::is_live(words, n, i) {
         return true;
     }
-    let node = slots::node_at(words, i);
+    let node = table::node_at(words, i);
     let parent = node.parent;
     if !slots::is_none(parent) {
         return true;

@@ -13,23 +13,24 @@ use Rattle.geometry.specs.BucketLaws.{rank-injective}
 use Rattle.geometry.specs.declared.Bucket.{Bucket}
 use Rattle.geometry.specs.declared.Bucket.the-variants.{Small, Medium, Large}
 use Rattle.slots.specs.declared.AllocIndex.{AllocIndex}
-use Rattle.lists.specs.FreeLists.{Lists, listOf, withList}
-use Rattle.search.specs.declared.Best.{Best}
-use Rattle.search.specs.declared.Best.the-variants as best
-use Rattle.search.specs.declared.Chosen.{Chosen}
-use Rattle.search.specs.declared.Chosen.the-variants.{At, Nothing}
-use Rattle.search.specs.declared.Query.{Query}
-use Rattle.search.specs.Scans.{Scanned}
-use Rattle.search.specs.Search.{chosenOf, scanBucket, Searched, searchOne, isLarge, higher, settled, searchUp, Searchable}
-use Rattle.search.specs.Suits.{Suits}
+use Rattle.buckets.specs.FreeLists.{Lists, listOf, withList}
+use Rattle.fits.specs.declared.Best.{Best}
+use Rattle.fits.specs.declared.Best.the-variants as best
+use Rattle.choices.specs.declared.Chosen.{Chosen}
+use Rattle.choices.specs.declared.Chosen.the-variants.{At, Nothing}
+use Rattle.fits.specs.declared.Query.{Query}
+use Rattle.fits.specs.Scans.{Scanned}
+use Rattle.choices.specs.Choices.{chosenOf, scanBucket, Searched, searchOne, isLarge, higher, settled, Searchable}
+use Rattle.search.specs.Search.{searchUp}
+use Rattle.fits.specs.Suits.{Suits}
 use Rattle.geometry.specs.TestLaws.{same-or-not}
 use Rattle.lists.specs.Counts.{occurrences}
 use Rattle.lists.specs.OccurrenceLaws.{occurs-at}
-use Rattle.lists.specs.FreeListLaws.{listOf-withList-same}
-use Rattle.search.specs.Thinned.{Thinned, thinned-twice}
-use Rattle.search.specs.ScanLaws.{listIn, looking-ends}
-use Rattle.search.specs.Candidates.{Scanning, SoFar, scan-scans}
-use Rattle.search.specs.SearchLaws.{one-thins, one-searchable}
+use Rattle.buckets.specs.FreeListLaws.{listOf-withList-same}
+use Rattle.fits.specs.Thinned.{Thinned, thinned-twice}
+use Rattle.fits.specs.ScanLaws.{listIn, looking-ends}
+use Rattle.fits.specs.Candidates.{Scanning, SoFar, scan-scans}
+use Rattle.choices.specs.ChoiceLaws.{one-thins, one-searchable}
 
 -- What is known of the slot that a search of some buckets chose: its entry's place, and that it suits.
 pub record Chose (w : List ℕ) (q : Query) (Among : Bucket → Type 0) (l : Lists) (i : AllocIndex) (b : Bucket) (k : ℕ) : Type 0 where

@@ -6,25 +6,27 @@ use mathlib.Core.List.{List}
 use Prim.Native.Nat.{ℕ, _≤_, _<_}
 use native.Mathlib.Omega.{arith}
 use lib.ListN.{length}
-use Rattle.geometry.specs.Cuts.{widthOf, heightOf}
+use Rattle.geometry.specs.Rectangles.{widthOf, heightOf}
 use Rattle.geometry.specs.Buckets.{bucketOf, rank}
 use Rattle.geometry.specs.BucketLaws.{bucket-rises}
 use Rattle.geometry.specs.declared.Bucket.{Bucket}
 use Rattle.geometry.specs.declared.Extent.{Extent}
 use Rattle.geometry.specs.declared.Setup.{Setup}
-use Rattle.slots.specs.Slots.{slot, nodeAt}
+use Rattle.slots.specs.Slots.{slot}
+use Rattle.table.specs.Table.{nodeAt}
 use Rattle.slots.specs.declared.AllocIndex.{AllocIndex}
 use Rattle.slots.specs.declared.NodeKind.the-variants.{Free}
 use Rattle.lists.specs.Lists.{freeEntry, Each}
-use Rattle.lists.specs.FreeLists.{Lists, listOf}
-use Rattle.search.specs.declared.Chosen.{Chosen}
-use Rattle.search.specs.declared.Chosen.the-variants.{At, Nothing}
-use Rattle.search.specs.Scans.{Lookable}
-use Rattle.search.specs.Search.{Searched, queryOf, findSuitable, Searchable}
-use Rattle.search.specs.Suits.{Suits}
+use Rattle.buckets.specs.FreeLists.{Lists, listOf}
+use Rattle.choices.specs.declared.Chosen.{Chosen}
+use Rattle.choices.specs.declared.Chosen.the-variants.{At, Nothing}
+use Rattle.fits.specs.Scans.{Lookable}
+use Rattle.choices.specs.Choices.{Searched, Searchable}
+use Rattle.search.specs.Search.{queryOf, findSuitable}
+use Rattle.fits.specs.Suits.{Suits}
 use Rattle.lists.specs.Counts.{occurrences}
-use Rattle.search.specs.Thinned.{Thinned, each-thinned}
-use Rattle.search.specs.SearchLaws.{searchable-thinned}
+use Rattle.fits.specs.Thinned.{Thinned, each-thinned}
+use Rattle.choices.specs.ChoiceLaws.{searchable-thinned}
 use Rattle.search.specs.Answers.{Chose, Answered, up-thins, up-answers}
 
 -- The bucket of a width and a height, by the thresholds of a setup.

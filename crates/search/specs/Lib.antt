@@ -1,9 +1,4 @@
-pub mod Scans
 pub mod Search
-pub mod Suits
-pub mod Thinned
-pub mod ScanLaws
-pub mod Candidates
 pub mod SearchLaws
 pub mod Answers
 pub mod FindLaws

@@ -1,75 +1,15 @@
 -- The search over the three free lists, from the request's bucket upward.
 -- Assumes nothing.
-use mathlib.Core.Bool.{Bool, true, false}
 use mathlib.Core.List.{List}
-use Prim.Native.Nat.{ℕ, zero, suc, _<_}
-use lib.ListN.{length, getD}
+use Prim.Native.Nat.{ℕ, zero, suc}
 use Rattle.geometry.specs.Choice.{pick}
 use Rattle.geometry.specs.Buckets.{bucketOf}
 use Rattle.geometry.specs.declared.Bucket.{Bucket}
-use Rattle.geometry.specs.declared.Bucket.the-variants.{Small, Medium, Large}
 use Rattle.geometry.specs.declared.Extent.{Extent}
 use Rattle.geometry.specs.declared.Setup.{Setup}
-use Rattle.slots.specs.Slots.{slot}
-use Rattle.lists.specs.Lists.{Bag, bag}
-use Rattle.lists.specs.FreeLists.{Lists, listOf, withList}
-use Rattle.search.specs.Scans.{scanned, first, scanAll, Ready}
-use Rattle.search.specs.declared.Best.{Best}
-use Rattle.search.specs.declared.Best.the-variants as best
-use Rattle.search.specs.declared.Chosen.{Chosen}
-use Rattle.search.specs.declared.Chosen.the-variants.{At, Nothing}
-use Rattle.search.specs.declared.Query.{Query}
-
--- The best candidate's place is in the table.
-abbrev pub BestWithin : Best → List ℕ → Type 0
-BestWithin (best.At k) t = k < length t
-BestWithin best.Nothing t = Unit {0}
-
--- The entry at the best candidate's place, as the answer. It stays in the list.
-abbrev pub chosenOf : Bucket → Best → List ℕ → Chosen
-chosenOf b (best.At k) t = At (slot (getD t k 0)) b k
-chosenOf b best.Nothing t = Nothing
-
--- What the scan of one bucket's list answers, and the list as it left it.
-pub record ScanAnswer : Type 0 where
-  pub chosen : Chosen
-  pub list : Bag
-
-abbrev pub scanAnswer : Chosen → Bag → ScanAnswer
-scanAnswer c b = record { chosen = c; list = b }
-
-unfoldable pub scanBucket : List ℕ → Query → Bucket → Bag → ScanAnswer
-scanBucket w q b l =
-    let o = scanAll w q (l .table) (l .len) in
-    scanAnswer (chosenOf b (o .scan .best) (o .table)) (bag (o .table) (o .scan .len))
-
--- What a search answers, and the lists as it left them.
-pub record Searched : Type 0 where
-  pub chosen : Chosen
-  pub lists : Lists
-
-abbrev pub searched : Chosen → Lists → Searched
-searched c l = record { chosen = c; lists = l }
-
--- One bucket's list is searched.
-unfoldable pub searchOne : List ℕ → Query → Bucket → Lists → Searched
-searchOne w q b l = let a = scanBucket w q b (listOf b l) in searched (a .chosen) (withList b (a .list) l)
-
-abbrev pub isLarge : Bucket → Bool
-isLarge Small = false
-isLarge Medium = false
-isLarge Large = true
-
--- The bucket above; above large there is none.
-abbrev pub higher : Bucket → Bucket
-higher Small = Medium
-higher Medium = Large
-higher Large = Large
-
--- The search ends in a bucket: with a candidate, or with no bucket above.
-abbrev pub settled : Chosen → Bucket → Bool
-settled (At i c k) b = true
-settled Nothing b = isLarge b
+use Rattle.buckets.specs.FreeLists.{Lists}
+use Rattle.fits.specs.declared.Query.{Query}
+use Rattle.choices.specs.Choices.{Searched, searchOne, isLarge, higher, settled}
 
 -- From a bucket upward, at most k more; the first bucket with a candidate decides.
 unfoldable pub searchUp : List ℕ → Query → ℕ → Bucket → Lists → Searched
@@ -78,6 +18,10 @@ searchUp w q (suc k) b l =
     let s = searchOne w q b l in
     pick (settled (s .chosen) b) s (searchUp w q k (higher b) (s .lists))
 
+-- One bucket more: that above, unless the search ended here.
+unfoldable pub goneOn : List ℕ → Query → Bucket → Searched → Searched
+goneOn w q b s = pick (settled (s .chosen) b) s (searchOne w q (higher b) (s .lists))
+
 -- What a request looks for. Its bucket decides whether the greatest score wins.
 abbrev pub queryOf : Setup → Extent → Query
 queryOf s e = record { width = e .width; height = e .height; worst = isLarge (bucketOf (s .small) (s .large) (e .width) (e .height)) }
@@ -85,7 +29,3 @@ queryOf s e = record { width = e .width; height = e .height; worst = isLarge (bu
 -- The search: from the request's bucket upward.
 unfoldable pub findSuitable : List ℕ → Setup → Extent → Lists → Searched
 findSuitable w s e l = searchUp w (queryOf s e) 2 (bucketOf (s .small) (s .large) (e .width) (e .height)) l
-
--- What a search asks of the lists: each is ready to be scanned.
-abbrev pub Searchable : List ℕ → Lists → Type 0
-Searchable w l = (b : Bucket) → Ready w (scanned (first (listOf b l .len)) (listOf b l .table))

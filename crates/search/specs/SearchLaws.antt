@@ -3,70 +3,59 @@
 use mathlib.Core.Path.{_≡_, refl}
 use mathlib.Core.Bool.{Bool, true, false}
 use mathlib.Core.List.{List}
-use Prim.Native.Nat.{ℕ, suc}
+use Prim.Native.Nat.{ℕ}
+use native.Mathlib.Omega.{arith}
+use Rattle.geometry.specs.Choice.{pick, pick-elim}
 use Rattle.geometry.specs.Buckets.{bucketOf}
 use Rattle.geometry.specs.declared.Bucket.{Bucket}
 use Rattle.geometry.specs.declared.Bucket.the-variants.{Small, Medium, Large}
 use Rattle.geometry.specs.declared.Extent.{Extent}
 use Rattle.geometry.specs.declared.Setup.{Setup}
-use Rattle.lists.specs.Lists.{Bag}
-use Rattle.lists.specs.FreeLists.{Lists, listOf, withList}
-use Rattle.lists.specs.FreeListLaws.{withList-elim}
-use Rattle.search.specs.declared.Chosen.{Chosen}
-use Rattle.search.specs.declared.Query.{Query}
-use Rattle.search.specs.Scans.{Scanned, scanned, first, scanAll, Ready}
-use Rattle.search.specs.Search.{BestWithin, chosenOf, ScanAnswer, scanAnswer, scanBucket, Searched, searched, searchOne, isLarge, higher, settled, searchUp, findSuitable, Searchable}
-use Rattle.search.specs.Thinned.{Thinned, thinned-itself}
-use Rattle.search.specs.ScanLaws.{listIn, ready-thinned, looking-thins}
-use Rattle.search.specs.Candidates.{scan-scans, scanning-best}
+use Rattle.buckets.specs.FreeLists.{Lists}
+use Rattle.fits.specs.declared.Query.{Query}
+use Rattle.choices.specs.declared.Chosen.{Chosen}
+use Rattle.choices.specs.declared.Chosen.the-variants.{At, Nothing}
+use Rattle.choices.specs.Choices.{Searched, searchOne, isLarge, higher, settled, Searchable}
+use Rattle.choices.specs.ChoiceLaws.{one-searchable}
+use Rattle.search.specs.Search.{searchUp, goneOn, findSuitable}
 
--- The scan of a list that is ready ends with its best candidate in the table.
-pub scan-best : (w : List ℕ) (q : Query) (l : Bag) (o : Scanned) → o ≡ scanAll w q (l .table) (l .len)
-    → Ready w (scanned (first (l .len)) (l .table)) → BestWithin (o .scan .best) (o .table)
-scan-best w q l o e r = rw e (scanning-best w q (scanAll w q (l .table) (l .len)) (scan-scans w q (l .table) (l .len) (r .within)))
+-- One bucket more: the search ended before, or it is that of the bucket above.
+module _ (w : List ℕ) (q : Query) (b : Bucket) (s r : Searched) where
+  pub on-ends : settled (s .chosen) b ≡ true → r ≡ s → r ≡ goneOn w q b s
+  unfolding goneOn
+  on-ends f e = rw f e
 
--- The scan of a bucket's list, by the scan and the answer read off it.
-pub bucket-scanned : (w : List ℕ) (q : Query) (b : Bucket) (l : Bag) (o : Scanned) (c : Chosen) → o ≡ scanAll w q (l .table) (l .len)
-    → c ≡ chosenOf b (o .scan .best) (o .table) → scanAnswer c (listIn o) ≡ scanBucket w q b l
-unfolding scanBucket
-bucket-scanned w q b l o c e f = rw (f, e)
+  pub on-above : (c : Bucket) → settled (s .chosen) b ≡ false → c ≡ higher b → r ≡ searchOne w q c (s .lists) → r ≡ goneOn w q b s
+  unfolding goneOn
+  on-above c f h e = rw (f, ← h) e
 
--- The search of one bucket, by the scan of its list.
-pub one-searched : (w : List ℕ) (q : Query) (b c : Bucket) (l : Lists) (a : ScanAnswer) → b ≡ c → a ≡ scanBucket w q b (listOf c l)
-    → searched (a .chosen) (withList c (a .list) l) ≡ searchOne w q b l
-unfolding searchOne
-one-searched w q b c l a e f = rw (f, e)
+  -- The lists stay ready to be searched.
+  pub on-searchable : r ≡ goneOn w q b s → Searchable w (s .lists) → Searchable w (r .lists)
+  unfolding goneOn
+  on-searchable e h =
+      rw e
+      (pick-elim (λ (t : Searched). Searchable w (t .lists)) (settled (s .chosen) b) s (searchOne w q (higher b) (s .lists)) (λ _. h)
+      (λ _. one-searchable w q (higher b) (s .lists) _ refl h))
 
--- The search of one bucket thins its list and leaves the others.
-pub one-thins : (w : List ℕ) (q : Query) (b : Bucket) (l : Lists) → Searchable w l → (c : Bucket)
-    → Thinned w (listOf c l) (listOf c (searchOne w q b l .lists))
-unfolding searchOne scanBucket
-one-thins w q b l r =
-    withList-elim (λ c a. Thinned w (listOf c l) a) b (scanBucket w q b (listOf b l) .list) l
-    (looking-thins w q (listOf b l .len) (scanned (first (listOf b l .len)) (listOf b l .table)) (r b .within)) (λ c. thinned-itself)
+-- A search that has ended has ended in the bucket above too.
+settled-higher : (c : Chosen) (b : Bucket) → settled c b ≡ true → settled c (higher b) ≡ true
+settled-higher (At i a k) b f = refl
+settled-higher Nothing Small f = let z : _≡_ {A = ℕ} 0 1 = cc in absurd (omega arith)
+settled-higher Nothing Medium f = refl
+settled-higher Nothing Large f = refl
 
--- Thinned lists are as ready to be searched as they were.
-pub searchable-thinned : {w : List ℕ} {l m : Lists} → ((c : Bucket) → Thinned w (listOf c l) (listOf c m)) → Searchable w l → Searchable w m
-searchable-thinned t r = λ c. ready-thinned (t c) (r c)
-
--- The search of one bucket leaves the lists ready to be searched.
-pub one-searchable : (w : List ℕ) (q : Query) (b : Bucket) (l : Lists) (s : Searched) → s ≡ searchOne w q b l → Searchable w l → Searchable w (s .lists)
-one-searchable w q b l s e r = rw e (searchable-thinned (one-thins w q b l r) r)
-
--- From a bucket upward, by the search of the bucket: it decides, or the search goes on above.
-module _ (w : List ℕ) (q : Query) (b : Bucket) (l : Lists) (s : Searched) (e : s ≡ searchOne w q b l) where
-  pub up-last : s ≡ searchUp w q 0 b l
-  unfolding searchUp
-  up-last = e
-
-  pub up-stops : (k : ℕ) → settled (s .chosen) b ≡ true → s ≡ searchUp w q (suc k) b l
-  unfolding searchUp
-  up-stops k f = rw (← e, f)
-
-  pub up-goes-on : (k : ℕ) (c : Bucket) (t : Searched) → settled (s .chosen) b ≡ false → c ≡ higher b → t ≡ searchUp w q k c (s .lists)
-      → t ≡ searchUp w q (suc k) b l
-  unfolding searchUp
-  up-goes-on k c t f h g = rw (← e, f, g, h)
+-- From a bucket upward: the bucket, and twice one more.
+pub up-thrice : (w : List ℕ) (q : Query) (b c : Bucket) (l : Lists) (s t r : Searched) → s ≡ searchOne w q b l → t ≡ goneOn w q b s → c ≡ higher b
+    → r ≡ goneOn w q c t → r ≡ searchUp w q 2 b l
+unfolding searchUp goneOn
+up-thrice w q b c l s t r es et ec er = rw (er, et, ec, es) (go (settled (searchOne w q b l .chosen) b) refl)
+  where
+    go : (d : Bool) → settled (searchOne w q b l .chosen) b ≡ d
+        → let s = searchOne w q b l in
+        let t = pick d s (searchOne w q (higher b) (s .lists)) in
+        pick (settled (t .chosen) (higher b)) t (searchOne w q (higher (higher b)) (t .lists)) ≡ pick d s (let u = searchOne w q (higher b) (s .lists) in pick (settled (u .chosen) (higher b)) u (searchOne w q (higher (higher b)) (u .lists)))
+    go true f = rw (settled-higher (searchOne w q b l .chosen) b f)
+    go false f = refl
 
 -- The search for a request, by its bucket and whether that is large.
 pub suitable-found : (w : List ℕ) (s : Setup) (e : Extent) (l : Lists) (b : Bucket) (t : Bool) (f : Searched)

@@ -12,7 +12,8 @@ use Rattle.geometry.specs.Sides.{natural, sheetSide, validSetup, setupOf}
 use Rattle.geometry.specs.Buckets.{reaches, bucketOf}
 use Rattle.geometry.specs.TestLaws.{same-or-not}
 use Rattle.geometry.specs.declared.Rectangle.{Rectangle}
-use Rattle.slots.specs.Slots.{slot, none, word, nodeAt, kindOf, orientationOf}
+use Rattle.slots.specs.Slots.{slot, none, kindOf, orientationOf}
+use Rattle.table.specs.Table.{word, nodeAt}
 use Rattle.slots.specs.declared.NodeKind.the-variants.{Container, Alloc, Free, Unused}
 use Rattle.steps.specs.State.{State, state}
 use Rattle.steps.specs.declared.Head.{Head}

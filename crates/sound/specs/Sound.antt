@@ -7,13 +7,13 @@ use Prim.Native.Nat.{ℕ, _*_, _≤_, _<_}
 use lib.ListN.{length, getD}
 use Rattle.geometry.specs.Sides.{natural, validSetup, setupOf}
 use Rattle.geometry.specs.Buckets.{bucketOf}
-use Rattle.geometry.specs.Cuts.{flip, widthOf, heightOf}
+use Rattle.geometry.specs.Rectangles.{flip, widthOf, heightOf}
 use Rattle.geometry.specs.declared.Bucket.{Bucket}
 use Rattle.geometry.specs.declared.Rectangle.{Rectangle}
 use Rattle.geometry.specs.declared.Size.{Size}
 use Rattle.slots.specs.declared.NodeKind.the-variants.{Container, Alloc, Free, Unused}
 use Rattle.lists.specs.Lists.{Bag, Each}
-use Rattle.lists.specs.FreeLists.{Lists, listOf, Within}
+use Rattle.buckets.specs.FreeLists.{Lists, listOf, Within}
 use Rattle.steps.specs.State.{State, listsOf}
 use Rattle.sound.specs.View.{Link, none, to, linkOf, Seen, seen, Live, Dead}
 use Rattle.sound.specs.Rules.{Ends, Visits, FirstChild, Leaf, PlaceSlot, PlaceChain}

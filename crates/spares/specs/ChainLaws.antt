@@ -9,7 +9,8 @@ use native.Mathlib.Numerals.{add-one}
 use lib.Dec.{leb, ltb}
 use borrow.Author.Tests.{eqb-true, leb-true, leb-false, lt-ltb, le-ltb, le-leb, lt-leb}
 use Rattle.geometry.specs.Choice.{pick}
-use Rattle.slots.specs.Slots.{nodeAt, isNone}
+use Rattle.table.specs.Table.{nodeAt}
+use Rattle.slots.specs.Slots.{isNone}
 use Rattle.slots.specs.declared.AllocIndex.{AllocIndex}
 use Rattle.steps.specs.Spares.{unusedBelow, spareSlots}
 use Rattle.sound.specs.View.{Link, none, to, linkOf, seen}

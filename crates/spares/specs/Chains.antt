@@ -6,7 +6,7 @@ use Prim.Native.Nat.{ℕ, zero, suc, _*_, _≤_}
 use lib.Dec.{ltb}
 use lib.ListN.{length}
 use Rattle.geometry.specs.Choice.{pick}
-use Rattle.slots.specs.Slots.{nodeAt}
+use Rattle.table.specs.Table.{nodeAt}
 use Rattle.slots.specs.declared.AllocIndex.{AllocIndex}
 use Rattle.sound.specs.View.{linkOf, seen}
 use Rattle.sound.specs.Sound.{SpareChain}

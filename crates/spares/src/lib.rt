@@ -18,7 +18,7 @@ fn chain_has(words: &[u32], n: u32, spare: AllocIndex, k: u32) -> bool
         if at.0 >= n {
             return false;
         }
-        let node = slots::node_at(words, at);
+        let node = table::node_at(words, at);
         at = node.next;
         left -= 1;
     }

@@ -5,18 +5,13 @@ use mathlib.Core.Bool.{Bool, true, false, true≢false}
 use mathlib.Core.Logic.{_↔_}
 use Prim.Native.Nat.{ℕ}
 use native.Mathlib.Omega.{arith}
-use lib.ListN.{length}
 use Rattle.geometry.specs.Sides.{validSetup}
 use Rattle.geometry.specs.declared.AllocatorOptions.{AllocatorOptions}
 use Rattle.geometry.specs.declared.Size.{Size}
 use Rattle.steps.specs.State.{State}
-use Rattle.starts.specs.Lent.{Lent, lent}
-use Rattle.starts.specs.LentLaws.{lent-yes, yes-lent}
+use Rattle.lent.specs.Lent.{lent, LentOf}
+use Rattle.lent.specs.LentLaws.{lent-yes, yes-lent}
 use Rattle.starts.specs.Starts.{Outcome, startAnswer, startCall}
-
--- The tables of a state have lengths in range.
-abbrev pub LentOf : State → Type 0
-LentOf s = Lent (length (s .words)) (length (s .generations)) (length (s .small)) (length (s .medium)) (length (s .large))
 
 module _ (sheet : Size) (options : AllocatorOptions) (s : State) where
   cases : (P : Outcome → Type 0) → (lent s ≡ false → P (startAnswer false true sheet options s))

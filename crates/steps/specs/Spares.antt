@@ -5,8 +5,9 @@ use Prim.Native.Nat.{ℕ, zero, suc, _+_, _-_, _*_, _%_, _≤_, _<_}
 use lib.ListN.{length, getD, set}
 use lib.Dec.{ltb}
 use Rattle.geometry.specs.Choice.{pick}
-use Rattle.slots.specs.Slots.{slot, sameKind, nodeAt}
-use Rattle.slots.specs.Stores.{stored, toKind, toNext}
+use Rattle.slots.specs.Slots.{slot, sameKind}
+use Rattle.table.specs.Table.{nodeAt}
+use Rattle.table.specs.Stores.{stored, toKind, toNext}
 use Rattle.slots.specs.declared.AllocIndex.{AllocIndex}
 use Rattle.slots.specs.declared.NodeKind.{NodeKind}
 use Rattle.slots.specs.declared.NodeKind.the-variants.{Unused}

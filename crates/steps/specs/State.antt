@@ -2,7 +2,7 @@
 -- Assumes nothing.
 use mathlib.Core.List.{List}
 use Prim.Native.Nat.{ℕ}
-use Rattle.lists.specs.FreeLists.{Lists, lists}
+use Rattle.buckets.specs.FreeLists.{Lists, lists}
 use Rattle.steps.specs.declared.Head.{Head}
 
 -- The head, the slot table, the generations, and the tables of the three free lists.

@@ -1,13 +1,13 @@
 // The head, and the steps that take a slot into use and out of it.
+use buckets::Lengths;
 use geometry::AllocatorOptions;
 use geometry::Size;
-use lists::Lengths;
 use slots::AllocIndex;
 use slots::NodeKind;
 ghost use mathlib.Core.Path.{_≡_};
 ghost use Prim.Native.Nat.{_*_, _≤_};
 ghost use lib.ListN.{length};
-ghost use Rattle.slots.specs.Slots.{HasSlot};
+ghost use Rattle.table.specs.Table.{HasSlot};
 ghost use Rattle.steps.specs.Spares.{stepped, fresh, newNode, markedUnused, ofKind, countKind, unusedBelow, spareSlots, HasSpare};
 
 // What is kept beside the tables: the sheet and its options, the first slot of the top chain, the first
@@ -43,7 +43,7 @@ pub fn new_node(words: &[u32], generations: &mut [u8], head: Head) -> Taken
     let n = head.count;
     let mut after = head;
     if first.0 < n {
-        let node = slots::node_at(words, first);
+        let node = table::node_at(words, first);
         let next = node.next;
         let at = first.0 as usize;
         generations[at] = next_generation(generations[at]);
@@ -67,8 +67,8 @@ pub fn mark_node_unused(words: &mut [u32], spare: AllocIndex, i: AllocIndex)
     requires { ⌜ HasSlot (now words) i ⌝ }
     ensures { λ _. ⌜ now (words .exit) ≡ markedUnused (now (words .entry)) spare i ⌝ }
 {
-    slots::set_kind(words, i, NodeKind::Unused);
-    slots::set_next(words, i, spare);
+    table::set_kind(words, i, NodeKind::Unused);
+    table::set_next(words, i, spare);
 }
 
 // 1 where slot i is of this kind, else 0.
@@ -76,7 +76,7 @@ fn of_kind(words: &[u32], kind: NodeKind, i: AllocIndex) -> u32
     requires { ⌜ HasSlot (now words) i ⌝ }
     ensures { λ r. ⌜ (r ≡ ofKind (now (words .entry)) kind (i .0)) × (r ≤ 1) ⌝ }
 {
-    let node = slots::node_at(words, i);
+    let node = table::node_at(words, i);
     let own = node.kind;
     if slots::same_kind(own, kind) {
         return 1;

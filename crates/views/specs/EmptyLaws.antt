@@ -6,10 +6,11 @@ use mathlib.Core.List.{[], _∷_, _++_}
 use Prim.Native.Nat.{ℕ, _<_}
 use native.Mathlib.Omega.{arith}
 use native.Mathlib.Decide.{ℕ-discrete}
-use Rattle.geometry.specs.Cuts.{flip}
+use Rattle.geometry.specs.Rectangles.{flip}
 use Rattle.geometry.specs.declared.Orientation.{Orientation}
 use Rattle.geometry.specs.declared.Rectangle.{Rectangle}
-use Rattle.slots.specs.Slots.{slot, nodeAt}
+use Rattle.slots.specs.Slots.{slot}
+use Rattle.table.specs.Table.{nodeAt}
 use Rattle.slots.specs.declared.NodeKind.{NodeKind}
 use Rattle.slots.specs.declared.NodeKind.the-variants.{Container, Alloc, Free, Unused}
 use Rattle.steps.specs.State.{State}

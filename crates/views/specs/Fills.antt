@@ -5,7 +5,8 @@ use Prim.Native.Nat.{ℕ, _+_, _≤_, _<_}
 use lib.ListN.{length}
 use lib.Seq.{sets}
 use Rattle.geometry.specs.Choice.{pick}
-use Rattle.slots.specs.Slots.{slot, sameKind, HasSlot}
+use Rattle.slots.specs.Slots.{slot, sameKind}
+use Rattle.table.specs.Table.{HasSlot}
 use Rattle.slots.specs.declared.NodeKind.{NodeKind}
 use Rattle.slots.specs.declared.NodeKind.the-variants.{Alloc}
 use Rattle.lists.specs.Lists.{Bag, bag}

@@ -3,7 +3,7 @@
 use mathlib.Core.Path.{_≡_}
 use Prim.Native.Nat.{ℕ}
 use native.Mathlib.Omega.{arith}
-use Rattle.slots.specs.Slots.{HasSlot}
+use Rattle.table.specs.Table.{HasSlot}
 use Rattle.steps.specs.State.{State}
 use Rattle.audit.specs.Audited.{Checked}
 use Rattle.views.specs.Fills.{Held}

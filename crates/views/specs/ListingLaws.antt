@@ -11,9 +11,10 @@ use lib.Seq.{sets, sets-eq, length-sets}
 use borrow.Author.Tests.{le-leb, lt-leb, not-true, not-false}
 use Rattle.geometry.specs.Choice.{pick}
 use Rattle.geometry.specs.declared.Rectangle.{Rectangle}
-use Rattle.slots.specs.Slots.{slot, sameKind, nodeAt}
-use Rattle.slots.specs.Tickets.{ticketOf}
-use Rattle.slots.specs.declared.AllocId.{AllocId}
+use Rattle.slots.specs.Slots.{slot, sameKind}
+use Rattle.table.specs.Table.{nodeAt}
+use Rattle.tickets.specs.Tickets.{ticketOf}
+use Rattle.tickets.specs.declared.AllocId.{AllocId}
 use Rattle.slots.specs.declared.AllocIndex.{AllocIndex}
 use Rattle.slots.specs.declared.Node.{Node}
 use Rattle.slots.specs.declared.NodeKind.{NodeKind}

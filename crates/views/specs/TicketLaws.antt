@@ -9,11 +9,12 @@ use lib.ListN.{getD}
 use lib.Dec.{eqb, leb}
 use borrow.Author.Tests.{leb-true, leb-false, le-leb, lt-leb, eqb-true, eqb-false, eq-eqb, ne-eqb, not-true, not-false}
 use Rattle.geometry.specs.Choice.{pick, pick-elim}
-use Rattle.geometry.specs.Cuts.{noRect}
+use Rattle.geometry.specs.Rectangles.{noRect}
 use Rattle.geometry.specs.declared.Rectangle.{Rectangle}
-use Rattle.slots.specs.Slots.{sameKind, nodeAt}
-use Rattle.slots.specs.Tickets.{slotOf, generationOf}
-use Rattle.slots.specs.declared.AllocId.{AllocId}
+use Rattle.slots.specs.Slots.{sameKind}
+use Rattle.table.specs.Table.{nodeAt}
+use Rattle.tickets.specs.Tickets.{slotOf, generationOf}
+use Rattle.tickets.specs.declared.AllocId.{AllocId}
 use Rattle.slots.specs.declared.AllocIndex.{AllocIndex}
 use Rattle.slots.specs.declared.Node.{Node}
 use Rattle.slots.specs.declared.NodeKind.the-variants.{Alloc}

@@ -7,11 +7,12 @@ use Prim.Native.Nat.{ℕ, zero, suc, _<_}
 use lib.ListN.{length, getD, drop}
 use lib.Dec.{eqb, leb}
 use Rattle.geometry.specs.Choice.{pick}
-use Rattle.geometry.specs.Cuts.{noRect}
+use Rattle.geometry.specs.Rectangles.{noRect}
 use Rattle.geometry.specs.declared.Rectangle.{Rectangle}
-use Rattle.slots.specs.Slots.{slot, isNone, sameKind, nodeAt}
-use Rattle.slots.specs.Tickets.{ticketOf, slotOf, generationOf}
-use Rattle.slots.specs.declared.AllocId.{AllocId}
+use Rattle.slots.specs.Slots.{slot, isNone, sameKind}
+use Rattle.table.specs.Table.{nodeAt}
+use Rattle.tickets.specs.Tickets.{ticketOf, slotOf, generationOf}
+use Rattle.tickets.specs.declared.AllocId.{AllocId}
 use Rattle.slots.specs.declared.AllocIndex.{AllocIndex}
 use Rattle.slots.specs.declared.NodeKind.{NodeKind}
 use Rattle.slots.specs.declared.NodeKind.the-variants.{Alloc, Free}

@@ -11,19 +11,20 @@ use lib.ListN.{length, getD}
 use lib.Dec.{leb}
 use borrow.Author.Tests.{leb-true, leb-false}
 use Rattle.geometry.specs.Choice.{pick}
-use Rattle.geometry.specs.Cuts.{noRect}
+use Rattle.geometry.specs.Rectangles.{noRect}
 use Rattle.geometry.specs.declared.Rectangle.{Rectangle}
-use Rattle.slots.specs.Slots.{slot, nodeAt}
-use Rattle.slots.specs.Tickets.{ticketOf, slotOf, generationOf}
-use Rattle.slots.specs.TicketLaws.{ticket-together, ticket-slot, ticket-generation}
-use Rattle.slots.specs.declared.AllocId.{AllocId}
+use Rattle.slots.specs.Slots.{slot}
+use Rattle.table.specs.Table.{nodeAt}
+use Rattle.tickets.specs.Tickets.{ticketOf, slotOf, generationOf}
+use Rattle.tickets.specs.TicketLaws.{ticket-together, ticket-slot, ticket-generation}
+use Rattle.tickets.specs.declared.AllocId.{AllocId}
 use Rattle.slots.specs.declared.AllocIndex.{AllocIndex}
 use Rattle.slots.specs.declared.NodeKind.{NodeKind}
 use Rattle.slots.specs.declared.NodeKind.the-variants.{Alloc}
 use Rattle.steps.specs.Spares.{countKind}
 use Rattle.steps.specs.State.{State}
 use Rattle.sound.specs.Sound.{Sound}
-use Rattle.starts.specs.StartWhen.{LentOf}
+use Rattle.lent.specs.Lent.{LentOf}
 use Rattle.audit.specs.Answers.{Given, given}
 use Rattle.audit.specs.AnswerLaws.{answers-cases, answers-1, answers-2, answers-other, answers-sound, answers-refused}
 use Rattle.views.specs.Views.{LiveTicket, lookup, IndexCall, entries, Filled, filled, writtenOver, listAnswer, listFilled, listing, ListCall, WholeFree, OnlyFree, EmptyCall}

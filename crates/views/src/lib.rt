@@ -1,14 +1,14 @@
 // What can be read off the tables: a ticket's rectangle, the listings, whether the sheet is empty, and its size.
 use geometry::Rectangle;
-use slots::AllocId;
 use slots::AllocIndex;
 use slots::NodeKind;
 use steps::Head;
+use tickets::AllocId;
 ghost use mathlib.Core.Path.{_≡_};
 ghost use Prim.Native.Nat.{_+_, _≤_, _<_};
 ghost use lib.ListN.{length};
 ghost use lib.Seq.{sets};
-ghost use Rattle.slots.specs.Slots.{HasSlot};
+ghost use Rattle.table.specs.Table.{HasSlot};
 ghost use Rattle.slots.specs.declared.NodeKind.the-variants.{Alloc, Free};
 ghost use Rattle.lists.specs.Lists.{bag};
 ghost use Rattle.steps.specs.State.{state};
@@ -39,17 +39,17 @@ pub fn ticket_answer(words: &[u32], generations: &[u8], n: u32, id: AllocId) -> 
     requires { ⌜ Held (now words) (now generations) n ⌝ }
     ensures { λ r. ⌜ r ≡ ticketAnswer (now (words .entry)) (now (generations .entry)) n id ⌝ }
 {
-    let i = slots::get_index(id);
+    let i = tickets::get_index(id);
     if i.0 >= n {
         return 8;
     }
     let at = i.0 as usize;
     let present = generations[at];
-    let told = slots::get_generation(id);
+    let told = tickets::get_generation(id);
     if present != told {
         return 9;
     }
-    let node = slots::node_at(words, i);
+    let node = table::node_at(words, i);
     let kind = node.kind;
     if !slots::same_kind(kind, NodeKind::Alloc) {
         return 10;
@@ -70,7 +70,7 @@ pub fn look_up(words: &[u32], generations: &[u8], n: u32, id: AllocId) -> Looked
             rect: geometry::no_rect(),
         };
     }
-    let node = slots::node_at(words, slots::get_index(id));
+    let node = table::node_at(words, tickets::get_index(id));
     let rect = node.rect;
     Looked {
         answer: 0,
@@ -125,13 +125,13 @@ fn list_slot(
     requires { ⌜ Enterable (now words) (now generations) kind (i .0) (bag (now out) at) ⌝ }
     ensures { λ r. ⌜ bag (now (out .exit)) r ≡ wrote (bag (now (out .entry)) at) (entryAt (now (words .entry)) (now (generations .entry)) kind (i .0)) ⌝ }
 {
-    let node = slots::node_at(words, i);
+    let node = table::node_at(words, i);
     let own = node.kind;
     if !slots::same_kind(own, kind) {
         return at;
     }
     let k = i.0 as usize;
-    let id = slots::alloc_id(i, generations[k]);
+    let id = tickets::alloc_id(i, generations[k]);
     let rect = node.rect;
     put_entry(out, at, kind, id, rect)
 }
@@ -180,7 +180,7 @@ fn is_lone_free(words: &[u32], root: AllocIndex) -> bool
     requires { ⌜ HasSlot (now words) root ⌝ }
     ensures { λ r. ⌜ r ≡ loneFree (now (words .entry)) root ⌝ }
 {
-    let node = slots::node_at(words, root);
+    let node = table::node_at(words, root);
     let kind = node.kind;
     if !slots::same_kind(kind, NodeKind::Free) {
         return false;

@@ -1,6 +1,6 @@
 use mathlib.Core.Path.{sym, _∙_}
 use borrow.Author.Tests.{not-true, not-false}
-use Rattle.starts.specs.LentLaws.{lent-yes}
+use Rattle.lent.specs.LentLaws.{lent-yes}
 use Rattle.audit.specs.Exact.{checked-1, checked-2, checked-0}
 use borrow.Author.Needs.{needs}
 use Rattle.audit.proofs.check.Statement.{statement}

@@ -3,7 +3,7 @@
 use mathlib.Core.Path.{sym, _∙_}
 use borrow.Author.Needs.{needs}
 use borrow.Author.Tests.{not-false}
-use Rattle.starts.specs.LentLaws.{lent-yes}
+use Rattle.lent.specs.LentLaws.{lent-yes}
 use Rattle.damaged.proofs.check_lent.Statement.{statement}
 use Rattle.damaged.proofs.check_lent.Tie as tie
 

@@ -1,7 +1,7 @@
 -- `geometry::is_empty` meets its contract: each answer rewrites with the test that led there.
 -- Assumes nothing.
 use borrow.Author.Tests.{le-leb, lt-leb}
-use Rattle.geometry.specs.Cuts.{emptyRect}
+use Rattle.geometry.specs.Rectangles.{emptyRect}
 use Rattle.geometry.proofs.is_empty.Statement.{statement}
 use Rattle.geometry.proofs.is_empty.Tie as tie
 

@@ -27,7 +27,7 @@ use Rattle.places.proofs.out_of_slots.Reads as out-of-slots-reads
 use Rattle.places.proofs.own_place.Reads as own-place-reads
 use Rattle.places.proofs.stands.Reads as stands-reads
 use Rattle.places.proofs.stored_as.Reads as stored-as-reads
-use Rattle.slots.proofs.node_at.Reads as node-at-reads
+use Rattle.table.proofs.node_at.Reads as node-at-reads
 use Rattle.slots.proofs.same_kind.Reads as same-kind-reads
 use Rattle.places.proofs.+place_of_chain+place_of_container+place_of_slot.{statement}
 use Rattle.places.proofs.+place_of_chain+place_of_container+place_of_slot.Tie.{close}

@@ -9,7 +9,7 @@ orientation-number-requires-2 : tie.Need-orientation-number-requires-2
 orientation-number-requires-2 c κs = search needs
 
 returns : tie.Need-returns
-returns c = cc
+returns c = rw (c .orientation-number2 .ensures, c .before .orientation-number .ensures)
 
 pub same-orientation-spec : {M : Type 1} → statement M
 same-orientation-spec =

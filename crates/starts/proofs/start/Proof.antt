@@ -1,6 +1,6 @@
 use mathlib.Core.Path.{sym, _∙_}
 use borrow.Author.Tests.{not-true, not-false}
-use Rattle.starts.specs.LentLaws.{lent-yes}
+use Rattle.lent.specs.LentLaws.{lent-yes}
 use Rattle.starts.specs.StartLaws.{start-lengths, start-invalid, start-done}
 use borrow.Author.Needs.{needs}
 use Rattle.starts.proofs.start.Statement.{statement}

@@ -1,0 +1,58 @@
+-- `buckets::push_to` meets its contract: in each arm the bucket is known, and its list is pushed to.
+-- Assumes nothing.
+use borrow.Author.Needs.{needs}
+use Rattle.buckets.proofs.push_to.Statement.{statement}
+use Rattle.buckets.proofs.push_to.Tie as tie
+
+enum-told : tie.Need-enum-told
+enum-told c = search needs
+
+push-requires : tie.Need-push-requires
+push-requires c κs = rw (c .before .enum-told .given .1) at (c .before .before .before .before .before .before .before .pre)
+
+enum-told-2 : tie.Need-enum-told-2
+enum-told-2 c = search needs
+
+push-requires-2 : tie.Need-push-requires-2
+push-requires-2 c κs = rw (c .before .enum-told2 .given .1) at (c .before .before .before .before .before .before .before .pre)
+
+enum-told-3 : tie.Need-enum-told-3
+enum-told-3 c = search needs
+
+push-requires-3 : tie.Need-push-requires-3
+push-requires-3 c κs = rw (c .before .enum-told3 .given .1) at (c .before .before .before .before .before .before .before .pre)
+
+same-length : tie.Need-same-length
+same-length c = search needs
+
+returns : tie.Need-returns
+returns c = rw (c .before .before .before .before .enum-told .given .1, c .before .before .push .ensures)
+
+same-length-2 : tie.Need-same-length-2
+same-length-2 c = search needs
+
+returns-2 : tie.Need-returns-2
+returns-2 c = rw (c .before .before .before .before .enum-told2 .given .1, c .before .before .push2 .ensures)
+
+same-length-3 : tie.Need-same-length-3
+same-length-3 c = search needs
+
+returns-3 : tie.Need-returns-3
+returns-3 c = rw (c .before .before .before .before .enum-told3 .given .1, c .before .before .push3 .ensures)
+
+pub push-to-spec : {M : Type 1} → statement M
+push-to-spec =
+    tie.close
+    (tie.spec
+    enum-told
+    push-requires
+    enum-told-2
+    push-requires-2
+    enum-told-3
+    push-requires-3
+    same-length
+    returns
+    same-length-2
+    returns-2
+    same-length-3
+    returns-3)

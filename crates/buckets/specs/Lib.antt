@@ -1,0 +1,3 @@
+pub mod FreeLists
+pub mod FreeListLaws
+pub mod ForgetLaws

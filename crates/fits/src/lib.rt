@@ -1,0 +1,145 @@
+// The scan of one free list for the rectangle that takes a request best.
+use geometry::Rectangle;
+use slots::AllocIndex;
+use slots::NodeKind;
+ghost use mathlib.Core.Path.{_≡_};
+ghost use Prim.Native.Nat.{_≤_, _<_};
+ghost use Rattle.fits.specs.Scans.{lesser, better, weighed, scanned, first, look, scanAll, Ready};
+
+// What is looked for: a rectangle at least this wide and tall. The greatest lesser spare side wins where worst is set, else the least.
+pub struct Query {
+    pub width: u32,
+    pub height: u32,
+    pub worst: bool,
+}
+
+// The place of the best candidate so far.
+pub enum Best {
+    At(usize),
+    Nothing,
+}
+
+// A scan of one list: its length, the next place to look at, and the best candidate with its score.
+pub struct Scan {
+    pub len: usize,
+    pub at: usize,
+    pub best: Best,
+    pub score: u32,
+}
+
+fn lesser(a: u32, b: u32) -> u32
+    ensures { λ r. ⌜ r ≡ lesser a b ⌝ }
+{
+    if a <= b {
+        return a;
+    }
+    b
+}
+
+// Whether a score beats the best so far: the first candidate does, and of equals the first stays.
+fn is_better(best: Best, score: u32, new: u32, worst: bool) -> bool
+    ensures { λ r. ⌜ r ≡ better best score new worst ⌝ }
+{
+    match best {
+        Best::At(_) => {
+            if worst {
+                return score < new;
+            }
+            new < score
+        }
+        Best::Nothing => true,
+    }
+}
+
+// What the entry of a Free rectangle does to the scan. A fit that is exact on one axis ends it.
+fn weigh(s: Scan, r: Rectangle, q: Query) -> Scan
+    requires { ⌜ (r .x0 ≤ r .x1) × (r .y0 ≤ r .y1) × (s .at < s .len) ⌝ }
+    ensures { λ t. ⌜ t ≡ weighed s r q ⌝ }
+{
+    let at = s.at;
+    let next = at + 1;
+    let len = s.len;
+    let best = s.best;
+    let wide = r.x1 - r.x0;
+    let tall = r.y1 - r.y0;
+    if wide < q.width {
+        return Scan {
+            len: len,
+            at: next,
+            best: best,
+            score: s.score,
+        };
+    }
+    if tall < q.height {
+        return Scan {
+            len: len,
+            at: next,
+            best: best,
+            score: s.score,
+        };
+    }
+    let score = lesser(wide - q.width, tall - q.height);
+    if score == 0 {
+        return Scan {
+            len: len,
+            at: len,
+            best: Best::At(at),
+            score: 0,
+        };
+    }
+    if is_better(best, s.score, score, q.worst) {
+        return Scan {
+            len: len,
+            at: next,
+            best: Best::At(at),
+            score: score,
+        };
+    }
+    Scan {
+        len: len,
+        at: next,
+        best: best,
+        score: s.score,
+    }
+}
+
+// Looks at the entry at the scan's place. One whose slot isn't Free is swap-removed, and the place is looked at again.
+fn look_at(words: &[u32], list: &mut [u32], s: Scan, q: Query) -> Scan
+    requires { ⌜ Ready (now words) (scanned s (now list)) × (s .at < s .len) ⌝ }
+    ensures { λ r. ⌜ scanned r (now (list .exit)) ≡ look (now (words .entry)) q (scanned s (now (list .entry))) ⌝ }
+{
+    let at = s.at;
+    let len = s.len;
+    let id = AllocIndex(list[at]);
+    let node = table::node_at(words, id);
+    let kind = node.kind;
+    if slots::same_kind(kind, NodeKind::Free) {
+        let rect = node.rect;
+        return weigh(s, rect, q);
+    }
+    let best = s.best;
+    let less = lists::swap_remove(list, len, at);
+    Scan {
+        len: less,
+        at: at,
+        best: best,
+        score: s.score,
+    }
+}
+
+// Scans one list.
+pub fn scan_list(words: &[u32], list: &mut [u32], len: usize, q: Query) -> Scan
+    requires { ⌜ Ready (now words) (scanned (first len) (now list)) ⌝ }
+    ensures { λ r. ⌜ scanned r (now (list .exit)) ≡ scanAll (now (words .entry)) q (now (list .entry)) len ⌝ }
+{
+    let mut s = Scan {
+        len: len,
+        at: 0,
+        best: Best::Nothing,
+        score: 0,
+    };
+    while s.at < s.len {
+        s = look_at(words, list, s, q);
+    }
+    s
+}

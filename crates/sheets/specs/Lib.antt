@@ -1,0 +1,4 @@
+pub mod Sheets
+pub mod SheetLaws
+pub mod LoneLaws
+pub mod SheetSound
