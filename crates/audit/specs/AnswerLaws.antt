@@ -69,3 +69,7 @@ module _ {A : Type 0} {nothing : A} {s : State} {k : ℕ} (c : Checked s k) wher
   pub answers-core : k ≡ 0 → {a b : ℕ} {v u : A} → a ≡ b → v ≡ u → Answers nothing s (given b u s) (given a v s)
   unfolding afterCheck
   answers-core z e f = record { code = k; checked = c; is = rw (eq-eqb k 0 z, e, f) }
+
+  pub answers-done : k ≡ 0 → {core o : Given A} → o ≡ core → Answers nothing s core o
+  unfolding afterCheck
+  answers-done z e = record { code = k; checked = c; is = rw (eq-eqb k 0 z, e) }

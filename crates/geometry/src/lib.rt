@@ -3,7 +3,7 @@ ghost use mathlib.Core.Path.{_≡_};
 ghost use Prim.Native.Nat.{_<_, _^_};
 ghost use Rattle.geometry.specs.Sides.{natural, sheetSide, validSetup, extentOf, setupOf};
 ghost use Rattle.geometry.specs.Buckets.{reaches, bucketOf};
-ghost use Rattle.geometry.specs.Rectangles.{flip, emptyRect};
+ghost use Rattle.geometry.specs.Rectangles.{noRect, flip, emptyRect};
 
 // A width and a height as they arrive: any two i32.
 pub struct Size {

@@ -25,6 +25,7 @@ use Rattle.steps.specs.Spares.{spareSlots}
 use Rattle.steps.specs.State.{State, listsOf}
 use Rattle.steps.specs.declared.Head.{Head}
 use Rattle.sound.specs.View.{seen, Live}
+use Rattle.sound.specs.LiveTickets.{LiveTicket}
 use Rattle.cover.specs.Sums.{rectAt, InRect}
 use Rattle.grants.specs.Grants.{Grant, noTicket}
 use Rattle.grants.specs.Shapes.{shapeOf, slotsNeeded}
@@ -61,12 +62,6 @@ TooFew s e i = spareAt s < neededAt s e i
 
 abbrev pub Enough : State → Extent → AllocIndex → Type 0
 Enough s e i = neededAt s e i ≤ spareAt s
-
--- A live ticket is one naming an Alloc slot with its present generation.
-pub record LiveTicket (s : State) (t : AllocId) : Type 0 where
-  pub below : slotOf t .0 < s .head .count
-  pub present : getD (s .generations) (slotOf t .0) 0 ≡ generationOf t
-  pub alloc : nodeAt (s .words) (slotOf t) .kind ≡ Alloc
 
 -- The head with other list lengths.
 abbrev pub withLengths : Head → Lengths → Head

@@ -19,6 +19,7 @@ use Rattle.slots.specs.declared.AllocIndex.{AllocIndex}
 use Rattle.slots.specs.declared.NodeKind.{NodeKind}
 use Rattle.slots.specs.declared.NodeKind.the-variants.{Container, Alloc, Free}
 use Rattle.buckets.specs.FreeLists.{Lists}
+use Rattle.sound.specs.LiveTickets.{LiveTicket}
 use Rattle.steps.specs.State.{State}
 use Rattle.sound.specs.View.{Seen, seen, inUse}
 use Rattle.sound.specs.Sound.{Sound}
@@ -29,7 +30,7 @@ use Rattle.grants.specs.Grants.{Grant}
 use Rattle.granted.specs.Carved.{Piece, Became, request, box, free}
 use Rattle.granted.specs.SoundFacts.{Picked}
 use Rattle.granted.specs.Given.{Given}
-use Rattle.granted.specs.Terms.{LiveTicket, GivesOut}
+use Rattle.granted.specs.Terms.{GivesOut}
 
 -- An Alloc slot is no Container and not Free.
 not-box : {k : NodeKind} → k ≡ Alloc → k ≡ Container → ⊥

@@ -2,3 +2,4 @@ pub mod View
 pub mod Rules
 pub mod Sound
 pub mod Examples
+pub mod LiveTickets

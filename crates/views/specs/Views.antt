@@ -22,13 +22,7 @@ use Rattle.sound.specs.View.{seen, Live}
 use Rattle.sound.specs.Sound.{sheetOf}
 use Rattle.audit.specs.Answers.{Given, given, Answers}
 
--- LOOKUP. A live ticket is one naming an Alloc slot with its present generation.
-pub record LiveTicket (s : State) (t : AllocId) : Type 0 where
-  pub below : slotOf t .0 < s .head .count
-  pub present : getD (s .generations) (slotOf t .0) 0 ≡ generationOf t
-  pub alloc : nodeAt (s .words) (slotOf t) .kind ≡ Alloc
-
--- 8: the ticket's slot is not below n; 9: its generation differs; 10: its slot is not Alloc; else 0.
+-- LOOKUP. 8: the ticket's slot is not below n; 9: its generation differs; 10: its slot is not Alloc; else 0.
 unfoldable pub ticketAnswer : List ℕ → List ℕ → ℕ → AllocId → ℕ
 ticketAnswer w g n t =
     pick (leb n (slotOf t .0)) 8

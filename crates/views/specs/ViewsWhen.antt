@@ -21,13 +21,14 @@ use Rattle.tickets.specs.declared.AllocId.{AllocId}
 use Rattle.slots.specs.declared.AllocIndex.{AllocIndex}
 use Rattle.slots.specs.declared.NodeKind.{NodeKind}
 use Rattle.slots.specs.declared.NodeKind.the-variants.{Alloc}
+use Rattle.sound.specs.LiveTickets.{LiveTicket}
 use Rattle.steps.specs.Spares.{countKind}
 use Rattle.steps.specs.State.{State}
 use Rattle.sound.specs.Sound.{Sound}
 use Rattle.lent.specs.Lent.{LentOf}
 use Rattle.audit.specs.Answers.{Given, given}
 use Rattle.audit.specs.AnswerLaws.{answers-cases, answers-1, answers-2, answers-other, answers-sound, answers-refused}
-use Rattle.views.specs.Views.{LiveTicket, lookup, IndexCall, entries, Filled, filled, writtenOver, listAnswer, listFilled, listing, ListCall, WholeFree, OnlyFree, EmptyCall}
+use Rattle.views.specs.Views.{lookup, IndexCall, entries, Filled, filled, writtenOver, listAnswer, listFilled, listing, ListCall, WholeFree, OnlyFree, EmptyCall}
 use Rattle.views.specs.TicketLaws.{ticket-cases}
 use Rattle.views.specs.EmptyLaws.{whole-free-at-root, whole-free-only}
 
