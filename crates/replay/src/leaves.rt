@@ -50,7 +50,7 @@ pub fn rounding(line: &[u32; 128]) -> Verdict {
 }
 
 // The rectangle whose corners stand at this place and the three after it.
-pub fn rect_at(line: &[u32; 128], at: usize) -> Rectangle
+fn rect_at(line: &[u32; 128], at: usize) -> Rectangle
     requires { ⌜ at + 3 < 128 ⌝ }
 {
     Rectangle {
@@ -61,7 +61,7 @@ pub fn rect_at(line: &[u32; 128], at: usize) -> Rectangle
     }
 }
 
-pub fn same_rect(a: Rectangle, b: Rectangle) -> bool {
+fn same_rect(a: Rectangle, b: Rectangle) -> bool {
     if a.x0 != b.x0 {
         return false;
     }

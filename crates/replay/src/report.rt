@@ -53,10 +53,7 @@ fn report_calls(counts: &[u64; 32], told: u64) {
     say(b"clears agree ", counts[5]);
     say(b"resets agree ", counts[6]);
     say(b"  lines that tell of these calls ", told);
-    say(
-        b"other calls after which is-empty and lookup agree ",
-        counts[9],
-    );
+    say(b"other calls after which emptiness agrees ", counts[9]);
 }
 
 pub fn report(counts: &[u64; 32], tally: Tally) {

@@ -4,7 +4,6 @@ use crate::agree;
 use crate::calls;
 use crate::leaves;
 use crate::looks;
-use crate::looks::Due;
 use crate::tickets;
 use crate::told;
 use crate::verdict;
@@ -19,13 +18,12 @@ pub struct Call {
     pub at: u64,
 }
 
-// What is kept from line to line beside the tables: the head that the list tells of, what our last call gave, the call
-// that is open, and what our lookup must say once it is closed.
+// What is kept from line to line beside the tables: the head that the list tells of, what our last call gave, and the call
+// that is open.
 pub struct Kept {
     pub told: Head,
     pub ours: Begun,
     pub call: Call,
-    pub due: Due,
 }
 
 // What is kept after a line, and what is found of it.
@@ -48,7 +46,6 @@ pub fn nothing_yet(line: &[u32; 128]) -> Kept {
             head: head,
         },
         call: no_call(),
-        due: looks::no_due(),
     }
 }
 
@@ -131,7 +128,6 @@ fn open(
                 kind: line[0],
                 at: at,
             },
-            due: looks::no_due(),
         },
         verdict: Verdict::Told,
     }
@@ -188,7 +184,6 @@ fn open_later(
                 kind: line[0],
                 at: at,
             },
-            due: looks::due_after(line),
         },
         verdict: ticket(line, told_words, told_generations, told_lists, head),
     }
@@ -263,21 +258,6 @@ fn is_same(
     )
 }
 
-// Whether what can be read off the state that the list tells of is as the list says.
-fn is_read(
-    line: &[u32; 128],
-    told_words: &[u32; 2048],
-    told_generations: &[u8; 256],
-    told_lists: &[[u32; 1024]; 3],
-    head: Head,
-    due: Due,
-) -> bool {
-    if !looks::is_empty_as_told(line, told_words, told_generations, told_lists, head) {
-        return false;
-    }
-    looks::is_met(told_words, told_generations, told_lists, head, due)
-}
-
 // What is kept once the call is closed.
 fn closed(kept: Kept) -> Kept {
     let mut after = kept;
@@ -301,11 +281,10 @@ fn close(
     let call = kept.call;
     let head = kept.told;
     let ours = kept.ours;
-    let due = kept.due;
     if !is_due(line, call) {
         return Verdict::Fault;
     }
-    if !is_read(line, told_words, told_generations, told_lists, head, due) {
+    if !looks::is_empty_as_told(line, told_words, told_generations, told_lists, head) {
         return Verdict::Differs;
     }
     if !calls::is_replayed(call.kind) {
