@@ -1,3 +1,4 @@
 pub mod Marks
 pub mod Merging
 pub mod Folds
+pub mod Settles
