@@ -2,3 +2,4 @@ pub mod Marks
 pub mod Merging
 pub mod Folds
 pub mod Settles
+pub mod Steps
