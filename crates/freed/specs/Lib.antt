@@ -3,3 +3,4 @@ pub mod Merging
 pub mod Folds
 pub mod Settles
 pub mod Steps
+pub mod Climbing
