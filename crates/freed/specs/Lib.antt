@@ -4,3 +4,5 @@ pub mod Folds
 pub mod Settles
 pub mod Steps
 pub mod Climbing
+pub mod TidyLaws
+pub mod Released
