@@ -6,3 +6,7 @@ pub mod Steps
 pub mod Climbing
 pub mod TidyLaws
 pub mod Released
+pub mod Contents
+pub mod Terms
+pub mod Lone
+pub mod Many

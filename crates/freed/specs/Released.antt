@@ -39,6 +39,7 @@ use Rattle.granted.specs.Carved.{piece}
 use Rattle.granted.specs.Stocked.{Stocked, sound-stocked, stocked-entry, push-stocks}
 use Rattle.granted.specs.SoundFacts.{setupAt, lent-few, lent-slots, lent-room}
 use Rattle.granted.specs.Outcomes.{outcome-lent}
+use Rattle.freed.specs.Terms.{SameFrame}
 use Rattle.freed.specs.Folds.{freeing, freeing-none}
 use Rattle.freed.specs.Settles.{rekind-settles}
 use Rattle.freed.specs.Steps.{Standing, inUseBelow}
@@ -49,18 +50,13 @@ use Rattle.freed.specs.TidyLaws.{tree-tidy}
 pub record Frees (s : State) (i : ℕ) (F : Forest) (t : State) : Type 0 where
   pub sound : Sound t
   pub lent : LentOf t
-  -- Sheet, options, root, slot count and generations stay.
-  pub sheet : t .head .sheet ≡ s .head .sheet
-  pub options : t .head .options ≡ s .head .options
-  pub root : t .head .root ≡ s .head .root
-  pub count : t .head .count ≡ s .head .count
-  pub generations : t .generations ≡ s .generations
+  pub same : SameFrame s t
   -- The Alloc slots but i stay, with their rectangles, and no slot becomes one.
   pub allocs : (j : ℕ) → (j ≡ i → ⊥) → seen (s .words) j .kind ≡ Alloc → (seen (t .words) j .kind ≡ Alloc) × (seen (t .words) j .rect ≡ seen (s .words) j .rect)
   pub none-new : (j : ℕ) → seen (t .words) j .kind ≡ Alloc → (j ≡ i → ⊥) × (seen (s .words) j .kind ≡ Alloc)
   -- The tree is that of F with i freed, and the root has not turned.
-  pub turned : seen (t .words) (s .head .root .0) .orientation ≡ seen (s .words) (s .head .root .0) .orientation
-  pub tree : (G : Forest) × Represents (seen (t .words)) (s .head .count) (s .head .root .0) G × (treeOf (seen (t .words)) G ≡ freeing (eqb i) (treeOf (seen (s .words)) F))
+  pub turned : seen (t .words) (t .head .root .0) .orientation ≡ seen (s .words) (s .head .root .0) .orientation
+  pub tree : (G : Forest) × Represents (seen (t .words)) (t .head .count) (t .head .root .0) G × (treeOf (seen (t .words)) G ≡ freeing (eqb i) (treeOf (seen (s .words)) F))
 
 module _ (s : State) (L : LentOf s) (S : Sound s) (i : AllocIndex) (below : i .0 < s .head .count) (alloc : seen (s .words) (i .0) .kind ≡ Alloc)
     (F : Forest) (R : Represents (seen (s .words)) (s .head .count) (s .head .root .0) F) where
@@ -172,11 +168,7 @@ module _ (s : State) (L : LentOf s) (S : Sound s) (i : AllocIndex) (below : i .0
         rule7 = E .stands .lasts;
       };
       lent = outcome-lent s (withSpare (s .head) (m .spare)) (m .words) (s .generations) after L (E .words) refl (stocked .filed .tables);
-      sheet = refl;
-      options = refl;
-      root = refl;
-      count = refl;
-      generations = refl;
+      same = record { sheet = refl; options = refl; root = refl; count = refl; generations = refl };
       allocs = λ j e a.
           let o = other j e in
           let z = E .stands .since .allocs j (ap (λ x. x .kind) o ∙ a) in
