@@ -1,8 +1,8 @@
 -- The climb on the slot table: each level keeps what holds where the climb stands, and it ends with rule 4 everywhere.
 -- Assumes nothing.
-use Prim.Native.Nat.{ℕ, zero, suc, _+_, _*_, _≤_, _<_}
-use mathlib.Core.Path.{_≡_, refl, sym, _∙_, ap}
-use mathlib.Core.Bool.{Bool, true, false, _&&_, not, false≢true}
+use Prim.Native.Nat.{ℕ, zero, suc, _*_, _≤_}
+use mathlib.Core.Path.{_≡_, refl, sym, _∙_}
+use mathlib.Core.Bool.{true, false, _&&_, not, false≢true}
 use mathlib.Core.Logic.{inl, inr}
 use mathlib.Core.List.{List}
 use native.Mathlib.Omega.{arith}
@@ -18,7 +18,7 @@ use Rattle.slots.specs.declared.NodeKind.{NodeKind}
 use Rattle.slots.specs.declared.NodeKind.the-variants.{Container, Free}
 use Rattle.lists.specs.Lists.{freeEntry}
 use Rattle.lists.specs.CountLaws.{count-some}
-use Rattle.sound.specs.View.{Link, none, to, linkOf, Seen, seen, inUse, Live}
+use Rattle.sound.specs.View.{none, to, linkOf, Seen, seen, inUse, Live}
 use Rattle.sound.specs.Sound.{Merged}
 use Rattle.forest.specs.Tree.{Tree}
 use Rattle.links.specs.LinkLaws.{link-none, link-some, link-names}

@@ -1,15 +1,13 @@
 -- A tree tells the forest, and what each slot of it holds.
 -- Assumes nothing.
 use Prim.Native.Nat.{ℕ}
-use mathlib.Core.Path.{_≡_, refl, sym, _∙_, ap, ap₂}
-use mathlib.Core.Bool.{true}
-use mathlib.Core.Logic.{inl, inr}
+use mathlib.Core.Path.{_≡_, refl, sym, _∙_, ap}
 use Rattle.geometry.specs.Cuts.{flip, noRect}
 use Rattle.geometry.specs.declared.Orientation.{Orientation}
 use Rattle.geometry.specs.declared.Rectangle.{Rectangle}
 use Rattle.slots.specs.declared.NodeKind.{NodeKind}
 use Rattle.slots.specs.declared.NodeKind.the-variants.{Container, Alloc, Free, Unused}
-use Rattle.sound.specs.View.{Link, none, to, Seen, inUse}
+use Rattle.sound.specs.View.{Link, none, to, Seen}
 use Rattle.forest.specs.Pigeon.{In}
 use Rattle.forest.specs.Forest.{Forest, empty, slot, slots, Shape, Here, Rep}
 use Rattle.forest.specs.Back.{by-place}

@@ -10,3 +10,5 @@ pub mod Contents
 pub mod Terms
 pub mod Lone
 pub mod Many
+pub mod Orders
+pub mod Promises

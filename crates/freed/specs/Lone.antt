@@ -3,16 +3,14 @@
 use Prim.Native.Nat.{ℕ, _<_}
 use mathlib.Core.Path.{_≡_, refl, sym, _∙_, ap}
 use mathlib.Core.Logic.{_⊎_, inl, inr, ⊎-elim}
-use Rattle.geometry.specs.Cuts.{flip}
-use Rattle.geometry.specs.declared.Orientation.{Orientation}
 use Rattle.geometry.specs.declared.Rectangle.{Rectangle}
 use Rattle.slots.specs.declared.NodeKind.{NodeKind}
 use Rattle.slots.specs.declared.NodeKind.the-variants.{Container, Alloc, Free, Unused}
 use Rattle.steps.specs.State.{State}
-use Rattle.sound.specs.View.{Link, none, to, Seen, seen}
+use Rattle.sound.specs.View.{none, Seen, seen}
 use Rattle.sound.specs.Sound.{Sound, sheetOf}
 use Rattle.forest.specs.Pigeon.{In}
-use Rattle.forest.specs.Forest.{Forest, empty, slot, slots, Rep, Represents, in-children, in-after}
+use Rattle.forest.specs.Forest.{Forest, empty, slot, slots, Represents, in-children, in-after}
 use Rattle.forest.specs.Back.{to-inj, no-link, in-live}
 use Rattle.forest.specs.Bridge.{forest}
 use Rattle.forest.specs.Tree.{Tree, end, alloc, free, box, before, treeOf}

@@ -1,41 +1,52 @@
 -- Live tickets freed one after another: the tree is freed of all their slots at once.
 -- Assumes nothing.
 use Prim.Native.Nat.{ℕ, _<_}
-use mathlib.Core.Path.{_≡_, refl, sym, _∙_, ap, ap₂, fun-ext}
-use mathlib.Core.Bool.{Bool, true, false, _||_}
-use mathlib.Core.Logic.{_⊎_, _↔_, inl, inr, ⊎-elim}
+use mathlib.Core.Path.{_≡_, refl, sym, _∙_, ap, ap₂}
+use mathlib.Core.Bool.{Bool, false, _||_}
+use mathlib.Core.Logic.{_⊎_, inl, inr, ⊎-elim}
 use mathlib.Core.List.{List, [], _∷_}
-use native.Mathlib.Decide.{ℕ-discrete}
+use native.Mathlib.Omega.{arith}
 use lib.Dec.{eqb}
 use lib.ListN.{getD}
-use borrow.Author.Tests.{eqb-true, eqb-false, eq-eqb, ne-eqb}
 use Rattle.slots.specs.Slots.{slot}
-use Rattle.slots.specs.TicketLaws.{ticket-together}
+use Rattle.slots.specs.TicketLaws.{ticket-together, ticket-slot, ticket-generation}
 use Rattle.slots.specs.Tickets.{slotOf, ticketOf, generationOf}
 use Rattle.slots.specs.declared.AllocId.{AllocId}
+use Rattle.slots.specs.declared.AllocIndex.{AllocIndex}
 use Rattle.slots.specs.declared.NodeKind.the-variants.{Alloc}
 use Rattle.steps.specs.State.{State}
-use Rattle.sound.specs.View.{none, Seen, seen}
+use Rattle.sound.specs.View.{none, seen}
 use Rattle.sound.specs.Sound.{Sound}
-use Rattle.forest.specs.Pigeon.{In}
 use Rattle.forest.specs.Forest.{Forest, Represents}
 use Rattle.forest.specs.Tree.{treeOf}
 use Rattle.starts.specs.StartWhen.{LentOf}
 use Rattle.cover.specs.Sums.{rectAt}
 use Rattle.frees.specs.Frees.{released}
 use Rattle.granted.specs.Terms.{LiveTicket}
-use Rattle.freed.specs.Terms.{SameFrame, FreesOne, Among, Different, Tickets, releasedEach}
+use Rattle.freed.specs.Terms.{SameFrame, Among, Tickets, releasedEach}
 use Rattle.freed.specs.Folds.{freeing, freeing-none, fuse}
 use Rattle.freed.specs.TidyLaws.{tree-tidy}
 use Rattle.freed.specs.Released.{Frees, release-frees}
 
 -- Two live tickets of the same slot are the same.
-one-ticket : {s : State} {t u : AllocId} → LiveTicket s t → LiveTicket s u → slotOf t .0 ≡ slotOf u .0 → t ≡ u
+pub one-ticket : {s : State} {t u : AllocId} → LiveTicket s t → LiveTicket s u → slotOf t .0 ≡ slotOf u .0 → t ≡ u
 one-ticket {s} {t} {u} a b e =
     let g : generationOf t ≡ generationOf u = sym (a .present) ∙ (ap (λ x. getD (s .generations) x 0) e ∙ b .present) in
     sym (ticket-together t) ∙ (ap₂ (λ x y. ticketOf (slot x) y) e g ∙ ticket-together u)
 
--- A live ticket's slot is Alloc.
+-- An Alloc slot below n has a live ticket, of its present generation,
+abbrev pub ticketAt : State → ℕ → AllocId
+ticketAt s j = ticketOf (slot j) (getD (s .generations) j 0)
+
+pub ticket-at : {s : State} → LentOf s → Sound s → (j : ℕ) → j < s .head .count → seen (s .words) j .kind ≡ Alloc → LiveTicket s (ticketAt s j)
+unfolding seen
+ticket-at {s} L S j l a =
+    let g = getD (s .generations) j 0 in
+    let small : j < 16777216 = omega (arith, l, S .rule1 .fits, L .few) in
+    let e : slotOf (ticketAt s j) .0 ≡ j = ap (λ (x : AllocIndex). x .0) (ticket-slot (slot j) g small) in
+    record { below = rw e l; present = rw (e, ticket-generation (slot j) g small) refl; alloc = rw e a }
+
+-- and a live ticket's slot is Alloc.
 pub alloc-seen : {s : State} {t : AllocId} → LiveTicket s t → seen (s .words) (slotOf t .0) .kind ≡ Alloc
 unfolding seen
 alloc-seen v = v .alloc

@@ -2,11 +2,12 @@
 -- Assumes nothing.
 use Prim.Native.Nat.{ℕ}
 use mathlib.Core.Path.{_≡_, refl, sym, _∙_, ap}
-use mathlib.Core.Bool.{true, false≢true}
+use mathlib.Core.Bool.{false≢true}
 use mathlib.Core.Logic.{⊎-elim}
 use mathlib.Core.List.{List}
 use native.Mathlib.Decide.{ℕ-discrete}
-use Rattle.slots.specs.Slots.{nodeAt, HasSlot}
+use lib.ListN.{length}
+use Rattle.slots.specs.Slots.{HasSlot}
 use Rattle.slots.specs.Stores.{stored, toKind, toNext}
 use Rattle.slots.specs.SlotLaws.{length-stored, has-stored, nodeAt-stored-same}
 use Rattle.slots.specs.declared.AllocIndex.{AllocIndex}
@@ -19,7 +20,6 @@ use Rattle.forest.specs.Spare.{visits-step}
 use Rattle.changes.specs.Stands.{cell}
 use Rattle.granted.specs.NewSlots.{there, back, ending}
 use Rattle.granted.specs.Writes.{seen-same, seen-other}
-use lib.ListN.{length}
 
 -- Marking unused writes one slot: it is Unused, and its next is what was the head of the chain.
 module _ (w : List ℕ) (spare b : AllocIndex) where

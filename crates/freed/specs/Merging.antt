@@ -1,22 +1,21 @@
 -- What each write of the climb leaves, as the rules see the table.
 -- Assumes nothing.
 use Prim.Native.Nat.{ℕ, _≤_}
-use mathlib.Core.Path.{_≡_, refl, sym, _∙_, ap}
+use mathlib.Core.Path.{_≡_, sym, _∙_, ap}
 use mathlib.Core.Bool.{true, false}
-use mathlib.Core.Logic.{inl, inr, ⊎-elim}
-use mathlib.Core.List.{List, [], _∷_}
+use mathlib.Core.Logic.{inl, inr}
+use mathlib.Core.List.{List}
 use lib.ListN.{length}
 use Rattle.geometry.specs.Choice.{pick-elim}
 use Rattle.geometry.specs.declared.Rectangle.{Rectangle}
-use Rattle.slots.specs.Slots.{slot, isNone, nodeAt, HasSlot}
+use Rattle.slots.specs.Slots.{isNone, nodeAt, HasSlot}
 use Rattle.slots.specs.Stores.{stored, toNext, toPrev, toKind, toRect}
 use Rattle.slots.specs.SlotLaws.{length-stored, has-stored, nodeAt-stored-same, nodeAt-stored-other}
 use Rattle.slots.specs.declared.AllocIndex.{AllocIndex}
 use Rattle.slots.specs.declared.NodeKind.the-variants.{Free}
 use Rattle.steps.specs.Spares.{markedUnused}
-use Rattle.sound.specs.View.{to, linkOf, Seen, seen, seenAs}
+use Rattle.sound.specs.View.{to, linkOf, Seen, seen}
 use Rattle.sound.specs.Rules.{join}
-use Rattle.forest.specs.Pigeon.{In}
 use Rattle.forest.specs.Back.{to-inj, no-link}
 use Rattle.links.specs.LinkLaws.{link-none, link-some}
 use Rattle.changes.specs.Stands.{cell}

@@ -1,16 +1,15 @@
 -- What freeing a slot leaves: sound tables, the other Alloc slots as they were, and a tree in which the slot is freed.
 -- Assumes nothing.
-use Prim.Native.Nat.{ℕ, _+_, _*_, _≤_, _<_}
+use Prim.Native.Nat.{ℕ, _<_}
 use mathlib.Core.Path.{_≡_, refl, sym, _∙_, ap}
-use mathlib.Core.Bool.{Bool, true, false, false≢true}
+use mathlib.Core.Bool.{true, false≢true}
 use mathlib.Core.Logic.{inl, inr, ⊎-elim}
 use mathlib.Core.List.{List, [], _∷_}
 use native.Mathlib.Omega.{arith}
 use native.Mathlib.Decide.{ℕ-discrete}
 use lib.Dec.{eqb}
 use lib.ListN.{length}
-use Rattle.geometry.specs.declared.Bucket.{Bucket}
-use Rattle.slots.specs.Slots.{slot, nodeAt, HasSlot}
+use Rattle.slots.specs.Slots.{slot, nodeAt}
 use Rattle.slots.specs.Stores.{stored, toKind}
 use Rattle.slots.specs.SlotLaws.{length-stored}
 use Rattle.slots.specs.declared.AllocIndex.{AllocIndex}
@@ -18,20 +17,19 @@ use Rattle.slots.specs.declared.NodeKind.{NodeKind}
 use Rattle.slots.specs.declared.NodeKind.the-variants.{Alloc, Free}
 use Rattle.lists.specs.Counts.{count}
 use Rattle.lists.specs.CountLaws.{count-all, count-more}
-use Rattle.lists.specs.FreeLists.{Lists, listOf}
+use Rattle.lists.specs.FreeLists.{Lists}
 use Rattle.steps.specs.Spares.{withSpare}
 use Rattle.steps.specs.State.{State, listsOf}
 use Rattle.sound.specs.View.{none, linkOf, Seen, seen, inUse, Live}
-use Rattle.sound.specs.Sound.{Sound, SpareChain, sheetOf}
+use Rattle.sound.specs.Sound.{Sound, sheetOf}
 use Rattle.forest.specs.Forest.{Forest, Represents}
-use Rattle.forest.specs.Pigeon.{In}
 use Rattle.forest.specs.Tree.{Tree, treeOf}
 use Rattle.changes.specs.Merges.{Rekind, rekind-keeps}
 use Rattle.changes.specs.Climbs.{rekind-merged}
 use Rattle.starts.specs.StartWhen.{LentOf}
 use Rattle.entries.specs.Entries.{entered}
 use Rattle.grants.specs.Grants.{withLists}
-use Rattle.frees.specs.Climbs.{Level, level, climbed}
+use Rattle.frees.specs.Climbs.{Level, level}
 use Rattle.frees.specs.Frees.{climbOf, released}
 use Rattle.granted.specs.NewSlots.{spare-again}
 use Rattle.granted.specs.Writes.{kind-writes}
@@ -42,8 +40,8 @@ use Rattle.granted.specs.Outcomes.{outcome-lent}
 use Rattle.freed.specs.Terms.{SameFrame}
 use Rattle.freed.specs.Folds.{freeing, freeing-none}
 use Rattle.freed.specs.Settles.{rekind-settles}
-use Rattle.freed.specs.Steps.{Standing, inUseBelow}
-use Rattle.freed.specs.Climbing.{Reached, Ended, climb-ends}
+use Rattle.freed.specs.Steps.{Standing}
+use Rattle.freed.specs.Climbing.{Ended, climb-ends}
 use Rattle.freed.specs.TidyLaws.{tree-tidy}
 
 -- What freeing slot i leaves, of tables that were the forest F.

@@ -1,26 +1,23 @@
 -- The tree of a table, merged all over, through the steps of the climb: only marking a slot Free changes it.
 -- Assumes nothing.
 use Prim.Native.Nat.{ℕ}
-use mathlib.Core.Path.{_≡_, refl, sym, _∙_, ap, ap₂}
-use mathlib.Core.Bool.{Bool, true, false}
+use mathlib.Core.Path.{_≡_, refl, sym, _∙_, ap}
+use mathlib.Core.Bool.{true, false}
 use mathlib.Core.Logic.{inl, inr, ⊎-elim}
-use mathlib.Core.List.{List, [], _∷_, _++_}
 use native.Mathlib.Omega.{arith}
 use native.Mathlib.Decide.{ℕ-discrete}
 use lib.Dec.{eqb}
 use borrow.Author.Tests.{eq-eqb, ne-eqb}
-use Rattle.geometry.specs.declared.Orientation.{Orientation}
 use Rattle.geometry.specs.declared.Rectangle.{Rectangle}
-use Rattle.slots.specs.declared.NodeKind.{NodeKind}
 use Rattle.slots.specs.declared.NodeKind.the-variants.{Container, Alloc, Free}
 use Rattle.sound.specs.View.{Link, none, to, Seen, Live}
 use Rattle.sound.specs.Rules.{join, PlaceChain}
 use Rattle.sound.specs.Sound.{Linked}
 use Rattle.forest.specs.Pigeon.{In, Distinct}
-use Rattle.forest.specs.Forest.{Forest, empty, slot, head, slots, Rep, Represents, in-left, in-right, in-children, in-after, rep-distinct}
+use Rattle.forest.specs.Forest.{Forest, empty, slot, slots, Rep, Represents, in-left, in-right, in-children, in-after, rep-distinct}
 use Rattle.forest.specs.Back.{to-inj, no-link, shape-live}
 use Rattle.forest.specs.Place.{PlaceF}
-use Rattle.forest.specs.Tree.{Tree, before, treeOf}
+use Rattle.forest.specs.Tree.{Tree, treeOf}
 use Rattle.changes.specs.Gaps.{Gap, here, under, past, plug, rim, parentAt, prevAt, orientationAt, distinct-fill, rep-fill}
 use Rattle.changes.specs.Frame.{SameBody, same-body}
 use Rattle.changes.specs.Stands.{leaf-bare}

@@ -1,9 +1,9 @@
 -- One step of the climb, and what holds where the climb stands.
 -- Assumes nothing.
-use Prim.Native.Nat.{ℕ, _≤_, _<_}
+use Prim.Native.Nat.{ℕ, _<_}
 use mathlib.Core.Path.{_≡_, refl, sym, _∙_, ap}
-use mathlib.Core.Bool.{true, false, false≢true}
-use mathlib.Core.Logic.{_⊎_, inl, inr, ⊎-elim}
+use mathlib.Core.Bool.{true, false≢true}
+use mathlib.Core.Logic.{_⊎_, inr, ⊎-elim}
 use native.Mathlib.Omega.{arith}
 use native.Mathlib.Decide.{ℕ-discrete}
 use Rattle.geometry.specs.declared.Rectangle.{Rectangle}
@@ -11,7 +11,7 @@ use Rattle.slots.specs.declared.NodeKind.{NodeKind}
 use Rattle.slots.specs.declared.NodeKind.the-variants.{Container, Alloc, Free, Unused}
 use Rattle.lists.specs.Counts.{count}
 use Rattle.lists.specs.CountLaws.{count-one-more}
-use Rattle.sound.specs.View.{Link, none, to, Seen, inUse, Live, Dead}
+use Rattle.sound.specs.View.{Link, none, to, Seen, inUse, Live}
 use Rattle.sound.specs.Rules.{PlaceChain}
 use Rattle.sound.specs.Sound.{SpareChain, Linked, LastTrue}
 use Rattle.forest.specs.Tree.{Tree}

@@ -1,18 +1,18 @@
 -- Rule 4 makes the tree of a table tidy.
 -- Assumes nothing.
 use Prim.Native.Nat.{ℕ}
-use mathlib.Core.Path.{_≡_, refl, sym, _∙_}
+use mathlib.Core.Path.{_≡_, refl}
 use mathlib.Core.Bool.{true, false≢true}
 use Rattle.geometry.specs.Cuts.{flip}
 use Rattle.geometry.specs.declared.Orientation.{Orientation}
 use Rattle.geometry.specs.declared.Rectangle.{Rectangle}
 use Rattle.slots.specs.declared.NodeKind.{NodeKind}
 use Rattle.slots.specs.declared.NodeKind.the-variants.{Container, Alloc, Free, Unused}
-use Rattle.sound.specs.View.{Link, none, to, Seen, inUse, Live}
+use Rattle.sound.specs.View.{Link, none, to, Seen, inUse}
 use Rattle.sound.specs.Sound.{Merged}
-use Rattle.forest.specs.Forest.{Forest, empty, slot, Shape, Rep}
+use Rattle.forest.specs.Forest.{Forest, empty, slot, Rep}
 use Rattle.forest.specs.Back.{shape-live}
-use Rattle.forest.specs.Tree.{Tree, end, before, treeOf}
+use Rattle.forest.specs.Tree.{Tree, before, treeOf}
 use Rattle.freed.specs.Folds.{NotFree, Some, Kids, Tidy}
 
 -- One slot in use, before a chain and over its children.
