@@ -1,9 +1,9 @@
 -- The climb on the slot table: each level keeps what holds where the climb stands, and it ends with rule 4 everywhere.
 -- Assumes nothing.
 use Prim.Native.Nat.{ℕ, zero, suc, _*_, _≤_}
-use mathlib.Core.Path.{_≡_, refl, sym, _∙_}
+use mathlib.Core.Path.{_≡_, refl, sym, _∙_, ap}
 use mathlib.Core.Bool.{true, false, _&&_, not, false≢true}
-use mathlib.Core.Logic.{inl, inr}
+use mathlib.Core.Logic.{_⊎_, inl, inr}
 use mathlib.Core.List.{List}
 use native.Mathlib.Omega.{arith}
 use lib.ListN.{length}
@@ -14,8 +14,7 @@ use Rattle.geometry.specs.declared.Rectangle.{Rectangle}
 use Rattle.slots.specs.Slots.{slot, isNone, nodeAt, HasSlot}
 use Rattle.slots.specs.SlotLaws.{same-kind-equal}
 use Rattle.slots.specs.declared.AllocIndex.{AllocIndex}
-use Rattle.slots.specs.declared.NodeKind.{NodeKind}
-use Rattle.slots.specs.declared.NodeKind.the-variants.{Container, Free}
+use Rattle.slots.specs.declared.NodeKind.the-variants.{Free}
 use Rattle.lists.specs.Lists.{freeEntry}
 use Rattle.lists.specs.CountLaws.{count-some}
 use Rattle.sound.specs.View.{none, to, linkOf, Seen, seen, inUse, Live}
@@ -23,10 +22,11 @@ use Rattle.sound.specs.Sound.{Merged}
 use Rattle.forest.specs.Tree.{Tree}
 use Rattle.links.specs.LinkLaws.{link-none, link-some, link-names}
 use Rattle.changes.specs.Climbs.{Alone, climb-merged, next-once, next-twice, beyond-next, beyond-prev, absorb-next, absorb-prev}
+use Rattle.changes.specs.Merges.{Absorb}
 use Rattle.frees.specs.Climbs.{Level, level, absorbed, isFree, nextAbsorbed, absorbedByPrev, isOnlyChild, givenUp, climbed}
 use Rattle.granted.specs.Writes.{slot-link, NextApart}
 use Rattle.freed.specs.Merging.{absorb-writes, length-absorbed, give-writes, length-given}
-use Rattle.freed.specs.Steps.{Standing, inUseBelow, absorb-stands, give-stands}
+use Rattle.freed.specs.Steps.{Standing, inUseBelow, other-kind, absorb-stands, give-stands}
 
 -- THE TESTS. A link names a Free slot.
 free-link : (w : List ℕ) (j : AllocIndex) → isFree w j ≡ true → (linkOf j ≡ to (j .0)) × (seen w (j .0) .kind ≡ Free)
@@ -85,70 +85,72 @@ module _ (was : ℕ → Seen) (size n root i : ℕ) (all : Rectangle) (T : Tree)
     short : length (l .words) ≤ 32768
     short = omega (arith, R .words)
 
+    -- Where the climb stands at one of two Free neighbours, the first absorbs the second.
+    absorb-reached : (a b : AllocIndex) → (l .at .0 ≡ a .0) ⊎ (l .at .0 ≡ b .0) → Live (seen (l .words)) n (a .0)
+        → seen (l .words) (a .0) .kind ≡ Free → seen (l .words) (a .0) .next ≡ to (b .0) → seen (l .words) (b .0) .kind ≡ Free
+        → At k (absorbed (l .words) (l .spare) a b) × Absorb (seen (l .words)) (seen (absorbed (l .words) (l .spare) a b .words)) (a .0) (b .0)
+    unfolding absorbed
+    absorb-reached a b f la ka e kb =
+        let S = R .stands in
+        let L = S .links in
+        let g = seen (l .words) in
+        let lb = L .next-live (a .0) (b .0) la e in
+        let ne = next-once g n root L (a .0) (b .0) la e in
+        let apart : NextApart (l .words) (b .0) (a .0) =
+        λ j q. (in-table j (L .next-live (b .0) j lb q), next-once g n root L (b .0) j lb q, next-twice g n root L (a .0) (b .0) j la e q) in
+        let op = absorb-writes (l .words) short (l .spare) a b (in-table (a .0) la) (in-table (b .0) lb) ne ka apart in
+        let z = absorb-stands S (a .0) (b .0) f la ka e kb (op .0) (op .1) in (
+          record {
+            words = length-absorbed (l .words) (l .spare) a b ∙ R .words;
+            stands = rw (slot-link (l .words) short b (in-table (b .0) lb)) (z .0);
+            left = omega (arith, R .left, z .1);
+          },
+          op .0,
+        )
+
     -- A Free next is absorbed,
     next-reached : At k (nextAbsorbed l) × NextCalm (nextAbsorbed l)
     unfolding nextAbsorbed absorbed seen
-    next-reached = pick-elim (λ m. At k m × NextCalm m) (isFree (l .words) b) (absorbed (l .words) (l .spare) (l .at) b) l hit miss
+    next-reached = pick-elim (λ m. At k m × NextCalm m) (isFree (l .words) b) (absorbed (l .words) (l .spare) (l .at) b) l hit (λ e. (R, not-free-link (l .words) b e))
       where
         b : AllocIndex
         b = nodeAt (l .words) (l .at) .next
 
-        miss : isFree (l .words) b ≡ false → At k l × NextCalm l
-        miss e = (R, not-free-link (l .words) b e)
-
         hit : isFree (l .words) b ≡ true → At k (absorbed (l .words) (l .spare) (l .at) b) × NextCalm (absorbed (l .words) (l .spare) (l .at) b)
         hit e =
             let S = R .stands in
-            let L = S .links in
-            let a = l .at .0 in
+            let g = seen (l .words) in
             let t = free-link (l .words) b e in
-            let lb = L .next-live a (b .0) (S .live) (t .0) in
-            let ne = next-once (seen (l .words)) n root L a (b .0) (S .live) (t .0) in
-            let apart : NextApart (l .words) (b .0) a = λ j q. (in-table j (L .next-live (b .0) j lb q), next-once (seen (l .words)) n root L (b .0) j lb q, next-twice (seen (l .words)) n root L a (b .0) j (S .live) (t .0) q) in
-            let op = absorb-writes (l .words) short (l .spare) (l .at) b (in-table a (S .live)) (in-table (b .0) lb) ne (S .free) apart in
-            let z = absorb-stands S a (b .0) (inl refl) (S .live) (S .free) (t .0) (t .1) (λ q. ne (sym q)) (op .0) (op .1) in (
-              record {
-                words = length-absorbed (l .words) short (l .spare) (l .at) b (in-table a (S .live)) (in-table (b .0) lb) ne (S .free) ∙ R .words;
-                stands = rw (t .0) (z .0);
-                left = omega (arith, R .left, z .1);
-              },
-              absorb-next (seen (l .words)) n root L (seen (absorbed (l .words) (l .spare) (l .at) b .words)) a (b .0) (S .live) (op .0)
-                  (λ j. beyond-next (seen (l .words)) n root L a (S .live) (S .merged) (b .0) j (t .0) (t .1)),
+            let z = absorb-reached (l .at) b (inl refl) (S .live) (S .free) (t .0) (t .1) in (
+              z .0,
+              absorb-next g n root (S .links) _ (l .at .0) (b .0) (S .live) (z .1)
+                  (λ j. beyond-next g n root (S .links) (l .at .0) (S .live) (S .merged) (b .0) j (t .0) (t .1)),
             )
 
     -- a Free prev absorbs, after which no neighbour is Free,
     prev-reached : NextCalm l → At k (absorbedByPrev l) × Alone (seen (absorbedByPrev l .words)) (absorbedByPrev l .at .0)
     unfolding absorbedByPrev absorbed seen
-    prev-reached calm = pick-elim (λ m. At k m × Alone (seen (m .words)) (m .at .0)) (isFree (l .words) p) (absorbed (l .words) (l .spare) p (l .at)) l hit miss
+    prev-reached calm =
+        pick-elim (λ m. At k m × Alone (seen (m .words)) (m .at .0)) (isFree (l .words) p) (absorbed (l .words) (l .spare) p (l .at)) l hit
+        (λ e. (R, record { next = calm; prev = not-free-link (l .words) p e }))
       where
         p : AllocIndex
         p = nodeAt (l .words) (l .at) .prev
-
-        miss : isFree (l .words) p ≡ false → At k l × Alone (seen (l .words)) (l .at .0)
-        miss e = (R, record { next = calm; prev = not-free-link (l .words) p e })
 
         hit : isFree (l .words) p ≡ true
             → At k (absorbed (l .words) (l .spare) p (l .at)) × Alone (seen (absorbed (l .words) (l .spare) p (l .at) .words)) (p .0)
         hit e =
             let S = R .stands in
             let L = S .links in
-            let b = l .at .0 in
+            let g = seen (l .words) in
             let t = free-link (l .words) p e in
-            let lp = L .prev-live b (p .0) (S .live) (t .0) in
-            let next = L .prev-next b (p .0) (S .live) (t .0) in
-            let ne = next-once (seen (l .words)) n root L (p .0) b lp next in
-            let apart : NextApart (l .words) b (p .0) = λ j q. (in-table j (L .next-live b j (S .live) q), next-once (seen (l .words)) n root L b j (S .live) q, next-twice (seen (l .words)) n root L (p .0) b j lp next q) in
-            let op = absorb-writes (l .words) short (l .spare) p (l .at) (in-table (p .0) lp) (in-table b (S .live)) ne (t .1) apart in
-            let z = absorb-stands S (p .0) b (inr refl) lp (t .1) next (S .free) (λ q. ne (sym q)) (op .0) (op .1) in
-            let get′ = seen (absorbed (l .words) (l .spare) p (l .at) .words) in (
+            let lp = L .prev-live (l .at .0) (p .0) (S .live) (t .0) in
+            let z = absorb-reached p (l .at) (inr refl) lp (t .1) (L .prev-next (l .at .0) (p .0) (S .live) (t .0)) (S .free) in (
+              z .0,
               record {
-                words = length-absorbed (l .words) short (l .spare) p (l .at) (in-table (p .0) lp) (in-table b (S .live)) ne (t .1) ∙ R .words;
-                stands = rw (slot-link (l .words) short (l .at) (in-table b (S .live))) (z .0);
-                left = omega (arith, R .left, z .1);
-              },
-              record {
-                next = absorb-next (seen (l .words)) n root L get′ (p .0) b lp (op .0) calm;
-                prev = absorb-prev (seen (l .words)) n root L get′ (p .0) b lp (op .0) (λ j. beyond-prev (seen (l .words)) n root L b (S .live) (S .merged) (p .0) j (t .0) (t .1));
+                next = absorb-next g n root L _ (p .0) (l .at .0) lp (z .1) calm;
+                prev = absorb-prev g n root L _ (p .0) (l .at .0) lp (z .1)
+                    (λ j. beyond-prev g n root L (l .at .0) (S .live) (S .merged) (p .0) j (t .0) (t .1));
               },
             )
 
@@ -162,17 +164,14 @@ module _ (was : ℕ → Seen) (size n root i : ℕ) (all : Rectangle) (T : Tree)
       let p = nodeAt (l .words) (l .at) .parent in
       let t = only-child (l .words) (l .at) e in
       let lp = L .parent-live c (p .0) (S .live) (t .2) in
-      let ne : p .0 ≡ c → ⊥ = λ q. box-free (L .parent-kind c (p .0) (S .live) (t .2)) (rw q (S .free)) in
+      let ne : p .0 ≡ c → ⊥ = λ q. other-kind refl (L .parent-kind c (p .0) (S .live) (t .2)) (ap (λ x. seen (l .words) x .kind) q ∙ S .free) in
       let op = give-writes (l .words) (l .spare) (l .at) p (in-table (suc k) l R c (S .live)) (in-table (suc k) l R (p .0) lp) (λ q. ne (sym q)) refl in
-      let z = give-stands S (p .0) (t .2) (t .0) (t .1) ne (op .0) (op .1) in
+      let z = give-stands S (p .0) (t .2) (t .0) (t .1) (op .0) (op .1) in
       record {
         words = length-given l ∙ R .words;
         stands = rw (slot-link (l .words) (short (suc k) l R) (l .at) (in-table (suc k) l R c (S .live))) (z .0);
         left = omega (arith, R .left, z .1);
       }
-    where
-      box-free : {k : NodeKind} → k ≡ Container → k ≡ Free → ⊥
-      box-free e f = let z : _≡_ {A = ℕ} 0 1 = cc in omega arith
 
   -- THE CLIMB ends, where at least as many levels are allowed as slots are in use.
   pub climb-ends : (k : ℕ) (l : Level) → At k l → Ended was size n root i all T (climbed k l)

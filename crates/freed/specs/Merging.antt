@@ -85,7 +85,8 @@ module _ (w : List ℕ) (few : length w ≤ 32768) (spare a b : AllocIndex) (ha 
               rest = record {
                 moved = λ j q. let y : x .0 ≡ j = to-inj (sym to-x ∙ q) in
                     rw (← y) (marked-other u spare b (x .0) (f .1)
-                    ∙ (seen-same two x (toPrev a) (two-has x (f .0)) ∙ rw (nodeAt-stored-other (stored w a (toRect r)) a x (toNext x) (f .2), nodeAt-stored-other w a x (toRect r) (f .2), slot-link w few a ha)));
+                    ∙ (seen-same two x (toPrev a) (two-has x (f .0))
+                    ∙ rw (nodeAt-stored-other (stored w a (toRect r)) a x (toNext x) (f .2), nodeAt-stored-other w a x (toRect r) (f .2), slot-link w few a ha)));
                 other = λ j m q. marked-other u spare b j (λ y. m (inr (inl y)))
                     ∙ (seen-other two x (toPrev a) j (λ y. q (to-x ∙ ap to (sym y))) ∙ two-other j (λ y. m (inl y)));
               };
@@ -93,10 +94,10 @@ module _ (w : List ℕ) (few : length w ≤ 32768) (spare a b : AllocIndex) (ha 
             ap (λ (m : Seen). m .next) gone,
           )
 
-  pub length-absorbed : length (absorbed w spare a b .words) ≡ length w
-  unfolding absorbed answeredBy two r x
-  length-absorbed =
-      length-marked _ spare b ∙ pick-elim (λ (u : List ℕ). length u ≡ length w) (isNone x) two (stored two x (toPrev a)) (λ _. simp length-stored) (λ _. simp length-stored)
+pub length-absorbed : (w : List ℕ) (spare a b : AllocIndex) → length (absorbed w spare a b .words) ≡ length w
+unfolding absorbed answeredBy
+length-absorbed w spare a b =
+    length-marked _ spare b ∙ pick-elim (λ (u : List ℕ). length u ≡ length w) (isNone (nodeAt w b .next)) _ _ (λ _. simp length-stored) (λ _. simp length-stored)
 
 -- An only child c gives its rectangle up to its parent p.
 module _ (w : List ℕ) (spare c p : AllocIndex) (hc : HasSlot w c) (hp : HasSlot w p) (ne : c .0 ≡ p .0 → ⊥) where

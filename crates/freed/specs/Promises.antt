@@ -3,7 +3,6 @@
 use mathlib.Core.Path.{refl}
 use mathlib.Core.Logic.{_↔_}
 use mathlib.Core.List.{List}
-use Rattle.slots.specs.Slots.{slot}
 use Rattle.slots.specs.Tickets.{slotOf}
 use Rattle.slots.specs.declared.AllocId.{AllocId}
 use Rattle.steps.specs.State.{State}

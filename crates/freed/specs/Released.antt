@@ -13,7 +13,6 @@ use Rattle.slots.specs.Slots.{slot, nodeAt}
 use Rattle.slots.specs.Stores.{stored, toKind}
 use Rattle.slots.specs.SlotLaws.{length-stored}
 use Rattle.slots.specs.declared.AllocIndex.{AllocIndex}
-use Rattle.slots.specs.declared.NodeKind.{NodeKind}
 use Rattle.slots.specs.declared.NodeKind.the-variants.{Alloc, Free}
 use Rattle.lists.specs.Counts.{count}
 use Rattle.lists.specs.CountLaws.{count-all, count-more}
@@ -40,7 +39,7 @@ use Rattle.granted.specs.Outcomes.{outcome-lent}
 use Rattle.freed.specs.Terms.{SameFrame}
 use Rattle.freed.specs.Folds.{freeing, freeing-none}
 use Rattle.freed.specs.Settles.{rekind-settles}
-use Rattle.freed.specs.Steps.{Standing}
+use Rattle.freed.specs.Steps.{Standing, other-kind}
 use Rattle.freed.specs.Climbing.{Ended, climb-ends}
 use Rattle.freed.specs.TidyLaws.{tree-tidy}
 
@@ -173,16 +172,13 @@ module _ (s : State) (L : LentOf s) (S : Sound s) (i : AllocIndex) (below : i .0
           (z .0, z .1 ∙ ap (λ x. x .rect) o);
       none-new = λ j a.
           let k = E .stands .since .none-new j a in
-          let e : j ≡ i .0 → ⊥ = λ q. free-alloc (ap (λ x. x .kind) (op .chosen)) (rw q at k) in
+          let e : j ≡ i .0 → ⊥ = λ q. other-kind refl (ap (λ x. x .kind) (op .chosen)) (rw q at k) in
           (e, sym (ap (λ x. x .kind) (other j e)) ∙ k);
       turned = E .stands .since .turned root (E .stands .links .root-live .1) ∙ kept (ℕ-discrete root (i .0));
       tree = let t = E .stands .tree in
           (t .0, t .1, sym (freeing-none (treeOf (seen (m .words)) (t .0)) (tree-tidy (seen (m .words)) n (E .merged) none none _ (t .0) (t .1 .along))) ∙ t .2);
     }
       where
-        free-alloc : {k : NodeKind} → k ≡ Free → k ≡ Alloc → ⊥
-        free-alloc e f = let z : _≡_ {A = ℕ} 0 1 = cc in omega arith
-
         kept : Dec (root ≡ i .0) → was root .orientation ≡ get root .orientation
         kept (yes e) = rw e (ap (λ x. x .orientation) (op .chosen))
         kept (no e) = ap (λ x. x .orientation) (other root e)

@@ -101,7 +101,8 @@ module _ (get get′ : ℕ → Seen) (n root : ℕ) (all : Rectangle) (P : Place
           let o : Absorb get get′ i x = rw q at op in
           let kx : get x .kind ≡ Free = rw q at kj in
           let D = whole-distinct K (slot i empty (slot x empty S)) whole in
-          let same : (y : ℕ) → In y (slots S) → SameBody (get y) (get′ y) = λ y m. prev-body (but-prev (o .rest) y (⊎-elim (λ z. D .0 (inr (rw z at m))) (⊎-elim (λ z. D .1 .0 (rw z at m)) (λ f. f)))) in
+          let same : (y : ℕ) → In y (slots S) → SameBody (get y) (get′ y) =
+          λ y m. prev-body (but-prev (o .rest) y (⊎-elim (λ z. D .0 (inr (rw z at m))) (⊎-elim (λ z. D .1 .0 (rw z at m)) (λ f. f)))) in
           swap-settles i K empty (slot x empty S) whole w placed e (slot i empty S) (absorb-swapped get get′ n i x o k kx S)
           (absorb-tree i x S k kx (ap (λ m. m .kind) (o .taker)) (ap (λ m. m .rect) (o .taker)) (tree-same get get′ S same))
 
@@ -138,7 +139,8 @@ module _ (get get′ : ℕ → Seen) (n root : ℕ) (all : Rectangle) (P : Place
           let o : GiveUp get get′ i x = rw q at op in
           let kx : get x .kind ≡ Free = rw q at k in
           let D = whole-distinct K (slot i (slot x empty empty) S) whole in
-          let same : (y : ℕ) → In y (slots S) → SameBody (get y) (get′ y) = λ y m. same-body (o .other y (⊎-elim (λ z. D .0 (inr (rw z at m))) (⊎-elim (λ z. D .1 .0 (rw z at m)) (λ f. f)))) in
+          let same : (y : ℕ) → In y (slots S) → SameBody (get y) (get′ y) =
+          λ y m. same-body (o .other y (⊎-elim (λ z. D .0 (inr (rw z at m))) (⊎-elim (λ z. D .1 .0 (rw z at m)) (λ f. f)))) in
           swap-settles i K (slot x empty empty) S whole w placed e (slot i empty S) (give-up-swapped get get′ n i x o box kx S)
           (give-tree i x S box kx (ap (λ m. m .kind) (o .taker)) (ap (λ m. m .rect) (o .taker)) (tree-same get get′ S same))
 

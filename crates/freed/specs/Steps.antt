@@ -2,13 +2,14 @@
 -- Assumes nothing.
 use Prim.Native.Nat.{ℕ, _<_}
 use mathlib.Core.Path.{_≡_, refl, sym, _∙_, ap}
-use mathlib.Core.Bool.{true, false≢true}
+use mathlib.Core.Bool.{true, false, false≢true}
 use mathlib.Core.Logic.{_⊎_, inr, ⊎-elim}
-use native.Mathlib.Omega.{arith}
 use native.Mathlib.Decide.{ℕ-discrete}
 use Rattle.geometry.specs.declared.Rectangle.{Rectangle}
+use Rattle.slots.specs.Slots.{sameKind}
+use Rattle.slots.specs.SlotLaws.{same-kind-itself}
 use Rattle.slots.specs.declared.NodeKind.{NodeKind}
-use Rattle.slots.specs.declared.NodeKind.the-variants.{Container, Alloc, Free, Unused}
+use Rattle.slots.specs.declared.NodeKind.the-variants.{Alloc, Free, Unused}
 use Rattle.lists.specs.Counts.{count}
 use Rattle.lists.specs.CountLaws.{count-one-more}
 use Rattle.sound.specs.View.{Link, none, to, Seen, inUse, Live}
@@ -51,21 +52,14 @@ pub record Step (get get′ : ℕ → Seen) (n x y b : ℕ) : Type 0 where
   pub from : (x ≡ y) ⊎ (x ≡ b)
   pub old : Live get n b × (get b .kind ≡ Free)
   pub taker : Live get n y × (get y .kind ≡ Alloc → ⊥)
-  pub apart : y ≡ b → ⊥
   pub free : get′ y .kind ≡ Free
   pub turned : get′ y .orientation ≡ get y .orientation
   pub gone : get′ b .kind ≡ Unused
   pub others : (j : ℕ) → (j ≡ y → ⊥) → (j ≡ b → ⊥) → get′ j ≡ withPrev (get j) (get′ j .prev)
 
--- The kinds are different.
-free-alloc : {k : NodeKind} → k ≡ Free → k ≡ Alloc → ⊥
-free-alloc e f = let z : _≡_ {A = ℕ} 0 1 = cc in omega arith
-
-unused-free : {k : NodeKind} → k ≡ Unused → k ≡ Free → ⊥
-unused-free e f = let z : _≡_ {A = ℕ} 0 1 = cc in omega arith
-
-unused-alloc : {k : NodeKind} → k ≡ Unused → k ≡ Alloc → ⊥
-unused-alloc e f = let z : _≡_ {A = ℕ} 0 1 = cc in omega arith
+-- No slot is of two kinds that differ.
+pub other-kind : {k a b : NodeKind} → sameKind a b ≡ false → k ≡ a → k ≡ b → ⊥
+other-kind {a = a} d e f = false≢true (sym d ∙ (ap (sameKind a) (sym f ∙ e) ∙ same-kind-itself a))
 
 module _ {get get′ : ℕ → Seen} {n x y b : ℕ} (s : Step get get′ n x y b) where
   -- Fewer slots are in use.
@@ -97,7 +91,7 @@ module _ {get get′ : ℕ → Seen} {n x y b : ℕ} (s : Step get get′ n x y 
     where
       frees : (j : ℕ) → (j ≡ y → ⊥) → get′ j .kind ≡ Free → (j ≡ i → ⊥) × (was j .kind ≡ Free) × (get′ j .rect ≡ was j .rect)
       frees j e f =
-          let d : j ≡ b → ⊥ = λ q. unused-free (s .gone) (rw q at f) in
+          let d : j ≡ b → ⊥ = λ q. other-kind refl (s .gone) (rw q at f) in
           let o = s .others j e d in
           let z = h .frees j (λ q. ⊎-elim (λ p. e (q ∙ p)) (λ p. d (q ∙ p)) (s .from)) (sym (ap (λ m. m .kind) o) ∙ f) in
           (z .0, z .1, ap (λ m. m .rect) o ∙ z .2)
@@ -105,12 +99,12 @@ module _ {get get′ : ℕ → Seen} {n x y b : ℕ} (s : Step get get′ n x y 
       allocs : (j : ℕ) → was j .kind ≡ Alloc → (get′ j .kind ≡ Alloc) × (get′ j .rect ≡ was j .rect)
       allocs j a =
           let z = h .allocs j a in
-          let o = s .others j (λ q. s .taker .1 (rw q at (z .0))) (λ q. free-alloc (s .old .1) (rw q at (z .0))) in
+          let o = s .others j (λ q. s .taker .1 (rw q at (z .0))) (λ q. other-kind refl (s .old .1) (rw q at (z .0))) in
           (ap (λ m. m .kind) o ∙ z .0, ap (λ m. m .rect) o ∙ z .1)
 
       none-new : (j : ℕ) → get′ j .kind ≡ Alloc → was j .kind ≡ Alloc
       none-new j a =
-          let o = s .others j (λ q. free-alloc (s .free) (rw q at a)) (λ q. unused-alloc (s .gone) (rw q at a)) in
+          let o = s .others j (λ q. other-kind refl (s .free) (rw q at a)) (λ q. other-kind refl (s .gone) (rw q at a)) in
           h .none-new j (sym (ap (λ m. m .kind) o) ∙ a)
 
       turned : (j : ℕ) → inUse (get′ j .kind) ≡ true → get′ j .orientation ≡ was j .orientation
@@ -139,13 +133,12 @@ module _ {was get get′ : ℕ → Seen} {n root i x : ℕ} {spare : Link} {all 
   }
 
   -- ABSORBING: x is one of two Free neighbours a and b.
-  absorb-step : (a b : ℕ) → (x ≡ a) ⊎ (x ≡ b) → Live get n a → get a .kind ≡ Free → get a .next ≡ to b → get b .kind ≡ Free → (a ≡ b → ⊥)
+  absorb-step : (a b : ℕ) → (x ≡ a) ⊎ (x ≡ b) → Live get n a → get a .kind ≡ Free → get a .next ≡ to b → get b .kind ≡ Free
       → Absorb get get′ a b → Step get get′ n x a b
-  absorb-step a b f la ka e kb ne op = record {
+  absorb-step a b f la ka e kb op = record {
     from = f;
     old = (S .links .next-live a b la e, kb);
-    taker = (la, free-alloc ka);
-    apart = ne;
+    taker = (la, other-kind refl ka);
     free = ap (λ m. m .kind) (op .taker);
     turned = ap (λ m. m .orientation) (op .taker);
     gone = op .gone;
@@ -153,35 +146,31 @@ module _ {was get get′ : ℕ → Seen} {n root i x : ℕ} {spare : Link} {all 
   }
 
   -- GIVING UP: x is the only child of p.
-  give-step : (p : ℕ) → get x .parent ≡ to p → (p ≡ x → ⊥) → GiveUp get get′ p x → Step get get′ n x p x
-  give-step p e ne op = record {
+  give-step : (p : ℕ) → get x .parent ≡ to p → GiveUp get get′ p x → Step get get′ n x p x
+  give-step p e op = record {
     from = inr refl;
     old = (S .live, S .free);
-    taker = (S .links .parent-live x p (S .live) e, λ q. box-alloc (S .links .parent-kind x p (S .live) e) q);
-    apart = ne;
+    taker = (S .links .parent-live x p (S .live) e, other-kind refl (S .links .parent-kind x p (S .live) e));
     free = ap (λ m. m .kind) (op .taker);
     turned = ap (λ m. m .orientation) (op .taker);
     gone = op .gone;
     others = λ j u v. same-prev (op .other j (⊎-elim u (⊎-elim v (λ m. m))));
   }
-    where
-      box-alloc : {k : NodeKind} → k ≡ Container → k ≡ Alloc → ⊥
-      box-alloc e f = let z : _≡_ {A = ℕ} 0 1 = cc in omega arith
 
-  pub absorb-stands : (a b : ℕ) → (x ≡ a) ⊎ (x ≡ b) → Live get n a → get a .kind ≡ Free → get a .next ≡ to b → get b .kind ≡ Free → (a ≡ b → ⊥)
+  pub absorb-stands : (a b : ℕ) → (x ≡ a) ⊎ (x ≡ b) → Live get n a → get a .kind ≡ Free → get a .next ≡ to b → get b .kind ≡ Free
       → Absorb get get′ a b → get′ b .next ≡ spare → Standing was get′ n root i a (to b) all T × (inUseBelow get′ n < inUseBelow get n)
-  absorb-stands a b f la ka e kb ne op on =
-      let s = absorb-step a b f la ka e kb ne op in (
+  absorb-stands a b f la ka e kb op on =
+      let s = absorb-step a b f la ka e kb op in (
         stands-again a b s on (absorb-keeps get get′ n root (S .links) all (S .places) a b op la ka e kb)
             (absorb-merged get get′ n a b x op f (S .merged))
             (absorb-settles get get′ n root all (S .places) T (S .tree .0) (S .tree .1) (S .tree .2) a b op la ka e kb),
         step-fewer s,
       )
 
-  pub give-stands : (p : ℕ) → get x .parent ≡ to p → get x .prev ≡ none → get x .next ≡ none → (p ≡ x → ⊥)
+  pub give-stands : (p : ℕ) → get x .parent ≡ to p → get x .prev ≡ none → get x .next ≡ none
       → GiveUp get get′ p x → get′ x .next ≡ spare → Standing was get′ n root i p (to x) all T × (inUseBelow get′ n < inUseBelow get n)
-  give-stands p e v nx ne op on =
-      let s = give-step p e ne op in (
+  give-stands p e v nx op on =
+      let s = give-step p e op in (
         stands-again p x s on (give-up-keeps get get′ n root (S .links) all (S .places) p x op (S .live) (S .free) e v nx)
             (give-up-merged get get′ n p x op (S .merged))
             (give-up-settles get get′ n root all (S .places) T (S .tree .0) (S .tree .1) (S .tree .2) p x (S .links) op (S .live) (S .free) e v nx),
