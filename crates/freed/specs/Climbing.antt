@@ -71,7 +71,7 @@ pub record Ended (was : ℕ → Seen) (size n root i : ℕ) (all : Rectangle) (T
   pub merged : Merged (seen (l .words)) n
 
 -- The next of the slot that it stands at is not Free.
-abbrev NextCalm : Level → Type 0
+abbrev pub NextCalm : Level → Type 0
 NextCalm l = (j : ℕ) → seen (l .words) (l .at .0) .next ≡ to j → seen (l .words) j .kind ≡ Free → ⊥
 
 module _ (was : ℕ → Seen) (size n root i : ℕ) (all : Rectangle) (T : Tree) (slots : n * 8 ≤ size) (few : size ≤ 32768) where
@@ -79,14 +79,15 @@ module _ (was : ℕ → Seen) (size n root i : ℕ) (all : Rectangle) (T : Tree)
   At k l = Reached was size n root i all T k l
 
   module _ (k : ℕ) (l : Level) (R : At k l) where
-    in-table : (j : ℕ) → Live (seen (l .words)) n j → HasSlot (l .words) (slot j)
+    -- Live slots are slots of the table, which is short.
+    pub in-table : (j : ℕ) → Live (seen (l .words)) n j → HasSlot (l .words) (slot j)
     in-table j v = omega (arith, R .words, v .0)
 
-    short : length (l .words) ≤ 32768
+    pub short : length (l .words) ≤ 32768
     short = omega (arith, R .words)
 
     -- Where the climb stands at one of two Free neighbours, the first absorbs the second.
-    absorb-reached : (a b : AllocIndex) → (l .at .0 ≡ a .0) ⊎ (l .at .0 ≡ b .0) → Live (seen (l .words)) n (a .0)
+    pub absorb-reached : (a b : AllocIndex) → (l .at .0 ≡ a .0) ⊎ (l .at .0 ≡ b .0) → Live (seen (l .words)) n (a .0)
         → seen (l .words) (a .0) .kind ≡ Free → seen (l .words) (a .0) .next ≡ to (b .0) → seen (l .words) (b .0) .kind ≡ Free
         → At k (absorbed (l .words) (l .spare) a b) × Absorb (seen (l .words)) (seen (absorbed (l .words) (l .spare) a b .words)) (a .0) (b .0)
     unfolding absorbed
@@ -109,7 +110,7 @@ module _ (was : ℕ → Seen) (size n root i : ℕ) (all : Rectangle) (T : Tree)
         )
 
     -- A Free next is absorbed,
-    next-reached : At k (nextAbsorbed l) × NextCalm (nextAbsorbed l)
+    pub next-reached : At k (nextAbsorbed l) × NextCalm (nextAbsorbed l)
     unfolding nextAbsorbed absorbed seen
     next-reached = pick-elim (λ m. At k m × NextCalm m) (isFree (l .words) b) (absorbed (l .words) (l .spare) (l .at) b) l hit (λ e. (R, not-free-link (l .words) b e))
       where
@@ -128,7 +129,7 @@ module _ (was : ℕ → Seen) (size n root i : ℕ) (all : Rectangle) (T : Tree)
             )
 
     -- a Free prev absorbs, after which no neighbour is Free,
-    prev-reached : NextCalm l → At k (absorbedByPrev l) × Alone (seen (absorbedByPrev l .words)) (absorbedByPrev l .at .0)
+    pub prev-reached : NextCalm l → At k (absorbedByPrev l) × Alone (seen (absorbedByPrev l .words)) (absorbedByPrev l .at .0)
     unfolding absorbedByPrev absorbed seen
     prev-reached calm =
         pick-elim (λ m. At k m × Alone (seen (m .words)) (m .at .0)) (isFree (l .words) p) (absorbed (l .words) (l .spare) p (l .at)) l hit
@@ -155,7 +156,7 @@ module _ (was : ℕ → Seen) (size n root i : ℕ) (all : Rectangle) (T : Tree)
             )
 
   -- and an only child gives up.
-  give-reached : (k : ℕ) (l : Level) → At (suc k) l → isOnlyChild (l .words) (l .at) ≡ true → At k (givenUp l)
+  pub give-reached : (k : ℕ) (l : Level) → At (suc k) l → isOnlyChild (l .words) (l .at) ≡ true → At k (givenUp l)
   unfolding givenUp seen
   give-reached k l R e =
       let S = R .stands in

@@ -5,9 +5,9 @@ pub mod Settles
 pub mod Steps
 pub mod Climbing
 pub mod TidyLaws
+pub mod Terms
 pub mod Released
 pub mod Contents
-pub mod Terms
 pub mod Lone
 pub mod Many
 pub mod Orders

@@ -40,7 +40,7 @@ use Rattle.freed.specs.Terms.{SameFrame}
 use Rattle.freed.specs.Folds.{freeing, freeing-none}
 use Rattle.freed.specs.Settles.{rekind-settles}
 use Rattle.freed.specs.Steps.{Standing, other-kind}
-use Rattle.freed.specs.Climbing.{Ended, climb-ends}
+use Rattle.freed.specs.Climbing.{Reached, Ended, climb-ends}
 use Rattle.freed.specs.TidyLaws.{tree-tidy}
 
 -- What freeing slot i leaves, of tables that were the forest F.
@@ -105,17 +105,20 @@ module _ (s : State) (L : LentOf s) (S : Sound s) (i : AllocIndex) (below : i .0
       same j (yes e) = rw e (ap (λ m. inUse (m .kind)) (op .chosen) ∙ sym (live .1))
       same j (no e) = ap (λ m. inUse (m .kind)) (op .other j (⊎-elim e (λ x. x)))
 
-  -- THE CLIMB ends.
+  -- So the climb starts,
+  pub start-reached : Reached was (length (s .words)) n root (i .0) (sheetOf (s .head .sheet)) T n (level marked (s .head .spare) i)
+  start-reached = record {
+    words = length-stored (s .words) i (toKind Free);
+    stands = start;
+    left = omega (arith, count-more (λ j. inUse (was j .kind)) (λ _. true) n (λ j u. refl), count-all n);
+  }
+
+  -- and it ends.
   ended : Ended was (length (s .words)) n root (i .0) (sheetOf (s .head .sheet)) T (climbOf s i)
   unfolding climbOf
   ended =
       climb-ends was (length (s .words)) n root (i .0) (sheetOf (s .head .sheet)) T (omega (arith, lent-slots s L, S .rule1 .fits)) (lent-few s L) n
-      (level marked (s .head .spare) i)
-      (record {
-        words = length-stored (s .words) i (toKind Free);
-        stands = start;
-        left = omega (arith, count-more (λ j. inUse (was j .kind)) (λ _. true) n (λ j u. refl), count-all n);
-      })
+      (level marked (s .head .spare) i) start-reached
 
   module _ (m : Level) (E : Ended was (length (s .words)) n root (i .0) (sheetOf (s .head .sheet)) T m) where
     now : ℕ → Seen
