@@ -88,10 +88,10 @@ climb-merged get n root x L M a h = record { apart = apart; sibling = sibling }
 
 -- NEIGHBOURS. No slot comes again along next,
 module _ (get : ℕ → Seen) (n root : ℕ) (L : Linked get n root) where
-  next-once : (i j : ℕ) → Live get n i → get i .next ≡ to j → j ≡ i → ⊥
+  pub next-once : (i j : ℕ) → Live get n i → get i .next ≡ to j → j ≡ i → ⊥
   next-once i j l e q = chain-visits-once (L .nexts-end i l) i it (rw (e, q) it)
 
-  next-twice : (i j k : ℕ) → Live get n i → get i .next ≡ to j → get j .next ≡ to k → k ≡ i → ⊥
+  pub next-twice : (i j k : ℕ) → Live get n i → get i .next ≡ to j → get j .next ≡ to k → k ≡ i → ⊥
   next-twice i j k l e f q = chain-visits-once (L .nexts-end i l) i it (rw e (later {i = j} (rw (f, q) it)))
 
   module _ (x : ℕ) (lv : Live get n x) (M : MergedBut get n x) where

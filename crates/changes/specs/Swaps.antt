@@ -165,15 +165,18 @@ pub record At (get : ℕ → Seen) (n root i : ℕ) : Type 0 where
   pub place : Rectangle
   pub placed : PlaceF get (slot i below after) place
 
--- Each live slot stands somewhere.
-pub at-slot : (get : ℕ → Seen) (n root i : ℕ) → Linked get n root → (r : Rectangle) → PlaceChain get n root r → Live get n i → At get n root i
-at-slot get n root i L r P lv =
-    let F = forest get n root L in
-    let c = locate (F .0) i (F .1 .all i lv) in
+-- Each live slot stands somewhere in the forest.
+pub at-in : (get : ℕ → Seen) (n root i : ℕ) (F : Forest) → Represents get n root F → (r : Rectangle) → PlaceChain get n root r → Live get n i
+    → (a : At get n root i) × (F ≡ plug (a .gap) (slot i (a .below) (a .after)))
+at-in get n root i F h r P lv =
+    let c = locate F i (h .all i lv) in
     let T = slot i (c .1) (c .2) in
-    let R : Represents get n root (plug (c .0) T) = rw (c .3) at (F .1) in
+    let R : Represents get n root (plug (c .0) T) = rw (c .3) at h in
     let w = place-fill get n (c .0) T i (inl refl) none none (get root .orientation) (R .along) r (placed-chain get n root (plug (c .0) T) R r P) in
-    record { gap = c .0; below = c .1; after = c .2; whole = R; place = w .0; placed = w .1 }
+    (record { gap = c .0; below = c .1; after = c .2; whole = R; place = w .0; placed = w .1 }, c .3)
+
+pub at-slot : (get : ℕ → Seen) (n root i : ℕ) → Linked get n root → (r : Rectangle) → PlaceChain get n root r → Live get n i → At get n root i
+at-slot get n root i L r P lv = let F = forest get n root L in at-in get n root i (F .0) (F .1) r P lv .0
 
 -- Wherever the chain T hangs, it is swapped fairly for T′.
 abbrev pub Swapped : (ℕ → Seen) → (ℕ → Seen) → ℕ → ℕ → Forest → Forest → Type 0
@@ -182,7 +185,7 @@ Swapped get get′ n n′ T T′ = (p v : Link) (o : Orientation) → Rep get n 
 
 module _ (get get′ : ℕ → Seen) (n n′ root i : ℕ) (grow : n ≤ n′) where
   -- So it is where it hangs,
-  swap-at : (a : At get n root i) (T′ : Forest) → Swapped get get′ n n′ (slot i (a .below) (a .after)) T′
+  pub swap-at : (a : At get n root i) (T′ : Forest) → Swapped get get′ n n′ (slot i (a .below) (a .after)) T′
       → Swap get get′ n n′ (parentAt (a .gap) none) (prevAt (a .gap) none) (orientationAt (a .gap) (get root .orientation)) (slot i (a .below) (a .after)) T′
       × Fair get get′ (slot i (a .below) (a .after)) T′
   swap-at a T′ s =

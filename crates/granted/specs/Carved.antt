@@ -66,10 +66,10 @@ written-used {get′ = get′} {a = a} {pieces = pieces} C j m = go (C .written 
     go (free k x) = ap inUse k
 
 -- A slot that a step did not write is as it was, but perhaps for its prev.
-same-prev : {m m′ : Seen} → m′ ≡ m → m′ ≡ withPrev m (m′ .prev)
+pub same-prev : {m m′ : Seen} → m′ ≡ m → m′ ≡ withPrev m (m′ .prev)
 same-prev e = rw e
 
-but-prev : {get get′ : ℕ → Seen} {written : List ℕ} {x v : Link} → Elsewhere get get′ written x v
+pub but-prev : {get get′ : ℕ → Seen} {written : List ℕ} {x v : Link} → Elsewhere get get′ written x v
     → (j : ℕ) → (In j written → ⊥) → get′ j ≡ withPrev (get j) (get′ j .prev)
 but-prev {get} {get′} {written} {x} {v} E j m = go x refl
   where

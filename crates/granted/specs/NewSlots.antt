@@ -175,6 +175,21 @@ module _ {w g g′ : List ℕ} {h h′ : Head} {new : List ℕ} (few : length g 
       (pick-elim (λ (x : Fresh). Taking w g h (x .taken .0 ∷ new) (x .generations) (x .head)) (ltb (h′ .spare .0) (h′ .count)) _ _
       (λ t. from-chain (ltb-true _ _ t)) (λ t. from-count (room some (ltb-false _ _ t))))
 
+-- A chain that two tables agree on visits the same slots when it is followed in either, and ends in both.
+module _ (f f′ : ℕ → Link) where
+  pub there : {m : Link} (a : ℕ) → ((j : ℕ) → Visits f j m → f′ j ≡ f j) → Visits f a m → Visits f′ a m
+  there a h it = it
+  there a h (later {i = i} v) = later {i = i} (rw (h i it) (there a (λ j u. h j (later {i = i} u)) v))
+
+  pub back : {m : Link} (a : ℕ) → Ends f m → ((j : ℕ) → Visits f j m → f′ j ≡ f j) → Visits f′ a m → Visits f a m
+  back a arrived h v = absurd (none-visits v refl)
+  back a (onward {i = i} e) h v =
+      ⊎-elim {C = Visits f a (to i)} (λ q. rw q it) (λ u. later {i = i} (back a e (λ j y. h j (later {i = i} y)) (rw (h i it) at u))) (visits-step v i refl)
+
+  pub ending : {m : Link} → Ends f m → ((j : ℕ) → Visits f j m → f′ j ≡ f j) → Ends f′ m
+  ending arrived h = arrived
+  ending (onward {i = i} e) h = onward {i = i} (rw (h i it) (ending e (λ j y. h j (later {i = i} y))))
+
 -- RULE 2 AGAIN. Once the new slots are in use, the rest being in use or Unused as it was, the chain is the spare chain.
 module _ (get get′ : ℕ → Seen) (n : ℕ) (l : Link) (new : List ℕ) (S : SpareBut get n l new)
     (used : (j : ℕ) → In j new → inUse (get′ j .kind) ≡ true)
@@ -186,28 +201,14 @@ module _ (get get′ : ℕ → Seen) (n : ℕ) (l : Link) (new : List ℕ) (S : 
   abbrev f′ : ℕ → Link
   f′ j = get′ j .next
 
-  -- The chain from a link that it comes to, when it is followed in either table.
-  there : {m : Link} (a : ℕ) → ((j : ℕ) → Visits f j m → f′ j ≡ f j) → Visits f a m → Visits f′ a m
-  there a h it = it
-  there a h (later {i = i} v) = later {i = i} (rw (h i it) (there a (λ j u. h j (later {i = i} u)) v))
-
-  back : {m : Link} (a : ℕ) → Ends f m → ((j : ℕ) → Visits f j m → f′ j ≡ f j) → Visits f′ a m → Visits f a m
-  back a arrived h v = absurd (none-visits v refl)
-  back a (onward {i = i} e) h v =
-      ⊎-elim {C = Visits f a (to i)} (λ q. rw q it) (λ u. later {i = i} (back a e (λ j y. h j (later {i = i} y)) (rw (h i it) at u))) (visits-step v i refl)
-
-  ending : {m : Link} → Ends f m → ((j : ℕ) → Visits f j m → f′ j ≡ f j) → Ends f′ m
-  ending arrived h = arrived
-  ending (onward {i = i} e) h = onward {i = i} (rw (h i it) (ending e (λ j y. h j (later {i = i} y))))
-
   agree : (j : ℕ) → Visits f j l → f′ j ≡ f j
   agree j v = let o = S .only j v in next j (o .0) (o .1)
 
   pub spare-again : SpareChain get′ n l
   spare-again = record {
-    each = λ i d. there i agree (let m = not-new i d in S .each i (d .0, sym (same i m) ∙ d .1) m);
-    only = λ i v. let o = S .only i (back i (S .ends) agree v) in (o .0 .0, same i (o .1) ∙ o .0 .1);
-    ends = ending (S .ends) agree;
+    each = λ i d. there f f′ i agree (let m = not-new i d in S .each i (d .0, sym (same i m) ∙ d .1) m);
+    only = λ i v. let o = S .only i (back f f′ i (S .ends) agree v) in (o .0 .0, same i (o .1) ∙ o .0 .1);
+    ends = ending f f′ (S .ends) agree;
   }
     where
       not-new : (i : ℕ) → Dead get′ n i → In i new → ⊥

@@ -60,16 +60,16 @@ length-pair w p o a k r b t = simp length-stored
 
 -- A slot after a store at it, and any other slot.
 module _ (w : List ℕ) (i : AllocIndex) (x : Store) where
-  seen-same : HasSlot w i → seen (stored w i x) (i .0) ≡ seenAs (after x (nodeAt w i))
+  pub seen-same : HasSlot w i → seen (stored w i x) (i .0) ≡ seenAs (after x (nodeAt w i))
   unfolding seen
   seen-same h = rw (nodeAt-stored-same w i x h)
 
-  seen-other : (j : ℕ) → (j ≡ i .0 → ⊥) → seen (stored w i x) j ≡ seen w j
+  pub seen-other : (j : ℕ) → (j ≡ i .0 → ⊥) → seen (stored w i x) j ≡ seen w j
   unfolding seen
   seen-other j n = rw (nodeAt-stored-other w i (slot j) x n)
 
 -- A slot's number is a link to it.
-slot-link : (w : List ℕ) → length w ≤ 32768 → (i : AllocIndex) → HasSlot w i → linkOf i ≡ to (i .0)
+pub slot-link : (w : List ℕ) → length w ≤ 32768 → (i : AllocIndex) → HasSlot w i → linkOf i ≡ to (i .0)
 slot-link w few i h = link-of-slot (i .0) (omega arith)
 
 -- A kind stored at a slot.

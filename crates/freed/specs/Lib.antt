@@ -1,0 +1,14 @@
+pub mod Marks
+pub mod Merging
+pub mod Folds
+pub mod Settles
+pub mod Steps
+pub mod Climbing
+pub mod TidyLaws
+pub mod Terms
+pub mod Released
+pub mod Contents
+pub mod Lone
+pub mod Many
+pub mod Orders
+pub mod Promises
