@@ -11,7 +11,8 @@ use borrow.Author.Tests.{not-true}
 use Rattle.geometry.specs.Choice.{pick, pick-elim}
 use Rattle.geometry.specs.TestLaws.{and-true-each}
 use Rattle.geometry.specs.declared.Rectangle.{Rectangle}
-use Rattle.slots.specs.Slots.{slot, isNone, nodeAt, HasSlot}
+use Rattle.slots.specs.Slots.{slot, isNone}
+use Rattle.table.specs.Table.{nodeAt, HasSlot}
 use Rattle.slots.specs.SlotLaws.{same-kind-equal}
 use Rattle.slots.specs.declared.AllocIndex.{AllocIndex}
 use Rattle.slots.specs.declared.NodeKind.the-variants.{Free}

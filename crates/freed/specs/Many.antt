@@ -9,9 +9,9 @@ use native.Mathlib.Omega.{arith}
 use lib.Dec.{eqb}
 use lib.ListN.{getD}
 use Rattle.slots.specs.Slots.{slot}
-use Rattle.slots.specs.TicketLaws.{ticket-together, ticket-slot, ticket-generation}
-use Rattle.slots.specs.Tickets.{slotOf, ticketOf, generationOf}
-use Rattle.slots.specs.declared.AllocId.{AllocId}
+use Rattle.tickets.specs.TicketLaws.{ticket-together, ticket-slot, ticket-generation}
+use Rattle.tickets.specs.Tickets.{slotOf, ticketOf, generationOf}
+use Rattle.tickets.specs.declared.AllocId.{AllocId}
 use Rattle.slots.specs.declared.AllocIndex.{AllocIndex}
 use Rattle.slots.specs.declared.NodeKind.the-variants.{Alloc}
 use Rattle.steps.specs.State.{State}
@@ -19,10 +19,10 @@ use Rattle.sound.specs.View.{none, seen}
 use Rattle.sound.specs.Sound.{Sound}
 use Rattle.forest.specs.Forest.{Forest, Represents}
 use Rattle.forest.specs.Tree.{treeOf}
-use Rattle.starts.specs.StartWhen.{LentOf}
+use Rattle.lent.specs.Lent.{LentOf}
 use Rattle.cover.specs.Sums.{rectAt}
 use Rattle.frees.specs.Frees.{released}
-use Rattle.granted.specs.Terms.{LiveTicket}
+use Rattle.sound.specs.LiveTickets.{LiveTicket}
 use Rattle.freed.specs.Terms.{SameFrame, Among, Tickets, releasedEach}
 use Rattle.freed.specs.Folds.{freeing, freeing-none, fuse}
 use Rattle.freed.specs.TidyLaws.{tree-tidy}

@@ -7,9 +7,9 @@ use mathlib.Core.Logic.{⊎-elim}
 use mathlib.Core.List.{List}
 use native.Mathlib.Decide.{ℕ-discrete}
 use lib.ListN.{length}
-use Rattle.slots.specs.Slots.{HasSlot}
-use Rattle.slots.specs.Stores.{stored, toKind, toNext}
-use Rattle.slots.specs.SlotLaws.{length-stored, has-stored, nodeAt-stored-same}
+use Rattle.table.specs.Table.{HasSlot}
+use Rattle.table.specs.Stores.{stored, toKind, toNext}
+use Rattle.table.specs.TableLaws.{length-stored, has-stored, nodeAt-stored-same}
 use Rattle.slots.specs.declared.AllocIndex.{AllocIndex}
 use Rattle.slots.specs.declared.NodeKind.the-variants.{Unused}
 use Rattle.steps.specs.Spares.{markedUnused}

@@ -8,9 +8,10 @@ use mathlib.Core.List.{List}
 use lib.ListN.{length}
 use Rattle.geometry.specs.Choice.{pick-elim}
 use Rattle.geometry.specs.declared.Rectangle.{Rectangle}
-use Rattle.slots.specs.Slots.{isNone, nodeAt, HasSlot}
-use Rattle.slots.specs.Stores.{stored, toNext, toPrev, toKind, toRect}
-use Rattle.slots.specs.SlotLaws.{length-stored, has-stored, nodeAt-stored-same, nodeAt-stored-other}
+use Rattle.slots.specs.Slots.{isNone}
+use Rattle.table.specs.Table.{nodeAt, HasSlot}
+use Rattle.table.specs.Stores.{stored, toNext, toPrev, toKind, toRect}
+use Rattle.table.specs.TableLaws.{length-stored, has-stored, nodeAt-stored-same, nodeAt-stored-other}
 use Rattle.slots.specs.declared.AllocIndex.{AllocIndex}
 use Rattle.slots.specs.declared.NodeKind.the-variants.{Free}
 use Rattle.steps.specs.Spares.{markedUnused}

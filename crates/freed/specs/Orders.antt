@@ -7,8 +7,8 @@ use mathlib.Core.Logic.{_↔_, inl, inr, ⊎-elim}
 use mathlib.Core.List.{List, [], _∷_}
 use lib.Dec.{eqb}
 use borrow.Author.Tests.{eqb-true, eq-eqb}
-use Rattle.slots.specs.Tickets.{slotOf}
-use Rattle.slots.specs.declared.AllocId.{AllocId}
+use Rattle.tickets.specs.Tickets.{slotOf}
+use Rattle.tickets.specs.declared.AllocId.{AllocId}
 use Rattle.steps.specs.State.{State}
 use Rattle.sound.specs.View.{none, seen}
 use Rattle.forest.specs.Forest.{Forest, slots, Rep, Represents}

@@ -3,16 +3,16 @@
 use mathlib.Core.Path.{refl}
 use mathlib.Core.Logic.{_↔_}
 use mathlib.Core.List.{List}
-use Rattle.slots.specs.Tickets.{slotOf}
-use Rattle.slots.specs.declared.AllocId.{AllocId}
+use Rattle.tickets.specs.Tickets.{slotOf}
+use Rattle.tickets.specs.declared.AllocId.{AllocId}
 use Rattle.steps.specs.State.{State}
 use Rattle.sound.specs.View.{seen}
 use Rattle.sound.specs.Sound.{Sound}
 use Rattle.forest.specs.Bridge.{forest}
 use Rattle.forest.specs.Forest.{Forest, Represents}
-use Rattle.starts.specs.StartWhen.{LentOf}
+use Rattle.lent.specs.Lent.{LentOf}
 use Rattle.frees.specs.Frees.{released}
-use Rattle.granted.specs.Terms.{LiveTicket}
+use Rattle.sound.specs.LiveTickets.{LiveTicket}
 use Rattle.freed.specs.Terms.{FreesOne, Among, Tickets, releasedEach, SameSlots, OneFree}
 use Rattle.freed.specs.Released.{Frees, release-frees}
 use Rattle.freed.specs.Many.{FreesEach, one-ticket, ticketAt, ticket-at, alloc-seen, others-live, live-other, each-frees}

@@ -9,14 +9,15 @@ use native.Mathlib.Omega.{arith}
 use native.Mathlib.Decide.{ℕ-discrete}
 use lib.Dec.{eqb}
 use lib.ListN.{length}
-use Rattle.slots.specs.Slots.{slot, nodeAt}
-use Rattle.slots.specs.Stores.{stored, toKind}
-use Rattle.slots.specs.SlotLaws.{length-stored}
+use Rattle.slots.specs.Slots.{slot}
+use Rattle.table.specs.Table.{nodeAt}
+use Rattle.table.specs.Stores.{stored, toKind}
+use Rattle.table.specs.TableLaws.{length-stored}
 use Rattle.slots.specs.declared.AllocIndex.{AllocIndex}
 use Rattle.slots.specs.declared.NodeKind.the-variants.{Alloc, Free}
 use Rattle.lists.specs.Counts.{count}
 use Rattle.lists.specs.CountLaws.{count-all, count-more}
-use Rattle.lists.specs.FreeLists.{Lists}
+use Rattle.buckets.specs.FreeLists.{Lists}
 use Rattle.steps.specs.Spares.{withSpare}
 use Rattle.steps.specs.State.{State, listsOf}
 use Rattle.sound.specs.View.{none, linkOf, Seen, seen, inUse, Live}
@@ -25,7 +26,7 @@ use Rattle.forest.specs.Forest.{Forest, Represents}
 use Rattle.forest.specs.Tree.{Tree, treeOf}
 use Rattle.changes.specs.Merges.{Rekind, rekind-keeps}
 use Rattle.changes.specs.Climbs.{rekind-merged}
-use Rattle.starts.specs.StartWhen.{LentOf}
+use Rattle.lent.specs.Lent.{LentOf}
 use Rattle.entries.specs.Entries.{entered}
 use Rattle.grants.specs.Grants.{withLists}
 use Rattle.frees.specs.Climbs.{Level, level}

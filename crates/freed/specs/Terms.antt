@@ -4,15 +4,15 @@ use Prim.Native.Nat.{ℕ}
 use mathlib.Core.Path.{_≡_}
 use mathlib.Core.List.{List, [], _∷_}
 use mathlib.Core.Logic.{_⊎_, _↔_}
-use Rattle.slots.specs.Tickets.{slotOf}
-use Rattle.slots.specs.declared.AllocId.{AllocId}
+use Rattle.tickets.specs.Tickets.{slotOf}
+use Rattle.tickets.specs.declared.AllocId.{AllocId}
 use Rattle.slots.specs.declared.NodeKind.the-variants.{Free}
 use Rattle.steps.specs.State.{State}
 use Rattle.sound.specs.View.{seen, Live}
 use Rattle.sound.specs.Sound.{sheetOf}
 use Rattle.cover.specs.Sums.{rectAt}
 use Rattle.frees.specs.Frees.{released}
-use Rattle.granted.specs.Terms.{LiveTicket}
+use Rattle.sound.specs.LiveTickets.{LiveTicket}
 
 -- The sheet, the options, the root, the slot count and the generations are the same.
 pub record SameFrame (s t : State) : Type 0 where
