@@ -6,7 +6,7 @@ use mathlib.Core.Logic.{_⊎_, inl, inr}
 use Prim.Native.Nat.{ℕ, _≤_, _<_}
 use native.Mathlib.Omega.{arith}
 use lib.Dec.{ltb, leb}
-use borrow.Author.Tests.{ltb-true, ltb-false, lt-ltb, leb-true, le-leb}
+use borrow.Author.Tests.{ltb-true, ltb-false, lt-ltb, le-ltb, leb-true, le-leb}
 use Rattle.geometry.specs.Choice.{pick}
 use Rattle.geometry.specs.Sides.{validSetup}
 use Rattle.geometry.specs.declared.Bucket.{Bucket}
@@ -20,7 +20,7 @@ use Rattle.links.specs.Links.{Table}
 use Rattle.links.specs.TestLaws.{Says, both-say, not-say, less-says, equal-says}
 use Rattle.lent.specs.Lent.{LentOf}
 use Rattle.scans.specs.Tests.{firstFrom, entryBelow}
-use Rattle.scans.specs.FirstLaws.{lowest-breaks, lowest-all}
+use Rattle.scans.specs.FirstLaws.{lowest-breaks, lowest-all, all-lowest}
 use Rattle.audit.specs.Audited.{numbersHold, numbersOf, verdict, entryFound, entriesFound}
 use Rattle.audit.specs.Judged.{EntriesReady}
 use Rattle.audit.specs.declared.Verdict.{Verdict}
@@ -57,6 +57,12 @@ entry-cases b n other = go (ltb r (b .len)) refl
         let h = ltb-true r (b .len) e in
         inr (λ f. true≢false (sym (lt-ltb _ _ (f r h)) ∙ lowest-breaks (entryBelow (b .table) n) (b .len) r refl h), refl)
     go false e = inl (λ k h. ltb-true _ _ (lowest-all (entryBelow (b .table) n) (b .len) r refl (ltb-false r (b .len) e) k h), refl)
+
+-- Where every entry of a list is below n, the verdict is the other.
+pub entry-all : (b : Bag) (n : ℕ) (other : Verdict) → Each (λ x. x < n) b → other ≡ entryFound b n other
+unfolding entryFound
+entry-all b n other f =
+    rw (all-lowest (entryBelow (b .table) n) (b .len) (firstFrom (entryBelow (b .table) n) 0 (b .len)) refl (λ i h. lt-ltb _ _ (f i h)), le-ltb (b .len) (b .len) (omega arith))
 
 -- Every entry of every list is below n and the verdict is 0, or one isn't and the verdict is rule 1.
 pub entries-cases : (l : Lists) (n : ℕ)

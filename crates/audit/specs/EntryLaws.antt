@@ -1,15 +1,14 @@
 -- RULE 6, EXACT: the marks decide it.
 -- Assumes nothing.
-use mathlib.Core.Path.{_≡_, refl}
-use mathlib.Core.Bool.{Bool, true, _||_, not}
+use mathlib.Core.Path.{_≡_}
+use mathlib.Core.Bool.{true}
 use mathlib.Core.Logic.{_↔_}
 use Prim.Native.Nat.{ℕ, _<_}
 use Rattle.geometry.specs.Sides.{setupOf}
 use Rattle.slots.specs.Slots.{slot}
 use Rattle.table.specs.Table.{nodeAt}
 use Rattle.slots.specs.declared.NodeKind.the-variants.{Free}
-use Rattle.lists.specs.Lists.{occurs, freeEntry}
-use Rattle.buckets.specs.FreeLists.{listOf}
+use Rattle.lists.specs.FreeLists.{listOf}
 use Rattle.steps.specs.State.{State, listsOf}
 use Rattle.sound.specs.View.{seen}
 use Rattle.sound.specs.Sound.{HasEntry, ownBucket, Listed}

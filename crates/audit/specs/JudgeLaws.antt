@@ -1,6 +1,6 @@
 -- The laws by which the verdict on rules 3 to 7 is proved: what the walk and each scan decides.
 -- Assumes nothing.
-use mathlib.Core.Path.{_≡_, ap, sym, subst, _∙_}
+use mathlib.Core.Path.{_≡_, sym, subst, _∙_}
 use mathlib.Core.Bool.{Bool, true, false, true≢false}
 use mathlib.Core.List.{List}
 use Prim.Native.Nat.{ℕ, _-_, _≤_, _<_}
@@ -19,7 +19,7 @@ use Rattle.places.specs.Places.{Chained}
 use Rattle.places.specs.PlaceLaws.{same-rect-says}
 use Rattle.places.specs.RuleLaws.{liveSlots, FirstsRight, walk-linked, linked-walk, walk-placed, placed-walk, walk-stored}
 use Rattle.places.specs.declared.Placed.{Placed}
-use Rattle.links.specs.Links.{Table, linksAt, mergedAt}
+use Rattle.links.specs.Links.{linksAt, mergedAt}
 use Rattle.links.specs.FirstLaws.{Firsts}
 use Rattle.links.specs.MergedLaws.{merged-yes, merged-no}
 use Rattle.links.specs.SpareLaws.{live-count}

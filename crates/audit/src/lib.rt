@@ -214,6 +214,9 @@ fn entry_found(list: &[u32], len: usize, n: u32, other: Verdict) -> Verdict
     requires { ⌜ (len ≤ length (now list)) × (len ≤ 16384) ⌝ }
     ensures { λ r. ⌜ r ≡ entryFound (bag (now (list .entry)) len) n other ⌝ }
 {
+    if scans::all_below(list, len, n) {
+        return other;
+    }
     let k = scans::lowest_entry(list, len, n);
     if k < len {
         return Verdict {

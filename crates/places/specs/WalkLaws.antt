@@ -4,10 +4,10 @@ use mathlib.Core.Path.{_≡_, refl, sym, _∙_, ap}
 use mathlib.Core.Logic.{_↔_}
 use mathlib.Core.Bool.{Bool, true, false, _&&_, not, false≢true}
 use mathlib.Core.List.{List}
-use Prim.Native.Nat.{ℕ, _+_, _-_, _≤_, _<_}
+use Prim.Native.Nat.{ℕ, _-_, _≤_, _<_}
 use native.Mathlib.Omega.{arith}
 use lib.ListN.{length, getD}
-use borrow.Author.Tests.{lt-ltb, ltb-true, eqb-true, eq-eqb, ne-eqb}
+use borrow.Author.Tests.{eq-eqb, ne-eqb}
 use Rattle.geometry.specs.Choice.{pick}
 use Rattle.geometry.specs.Rectangles.{flip, emptyRect}
 use Rattle.geometry.specs.TestLaws.{and-true-each}
@@ -23,13 +23,13 @@ use Rattle.slots.specs.declared.NodeKind.{NodeKind}
 use Rattle.slots.specs.declared.NodeKind.the-variants.{Container, Alloc, Free, Unused}
 use Rattle.sound.specs.View.{Link, none, to, linkOf, Seen, seen, inUse}
 use Rattle.sound.specs.Rules.{Adjoin, join}
-use Rattle.forest.specs.Forest.{Forest, empty, slot, head, Bare, Full, Shape}
-use Rattle.forest.specs.Follows.{Follows, size, down}
+use Rattle.forest.specs.Forest.{Forest, empty, slot, head, Shape}
+use Rattle.forest.specs.Follows.{size, down}
 use Rattle.forest.specs.Back.{shape-live}
 use Rattle.forest.specs.Place.{SlotAt, PlaceF}
 use Rattle.links.specs.LinkLaws.{to-inj, no-link, link-none, link-some, link-of-slot, same-link-says, in-use-says}
-use Rattle.links.specs.TestLaws.{Says, fails, both-say, says-as, less-says, equal-says, kind-says, orientation-says}
-use Rattle.places.specs.Places.{sameRect, adjoins, outOfSlots, nothingYet, ownPlace, storedAs, together, added, standsAs, isLone, loneAt, heldBy, kidsAt, nextAt, Ready, Held, Fitting, Standing, StoredAt, AtLast, StoredF, Chained, Contained, Slotted, Lined}
+use Rattle.links.specs.TestLaws.{Says, fails, both-say, says-as, less-says, kind-says, orientation-says}
+use Rattle.places.specs.Places.{adjoins, outOfSlots, nothingYet, ownPlace, storedAs, together, added, standsAs, isLone, loneAt, heldBy, kidsAt, nextAt, Ready, Held, Fitting, Standing, StoredAt, AtLast, StoredF, Chained, Contained, Slotted, Lined}
 use Rattle.places.specs.PlaceLaws.{clash, adjoins-true, true-adjoins, follows-one, slot-one, place-one, own-fits, last-fits, chain-fits, same-rect-says}
 use Rattle.places.specs.declared.Placed.{Placed}
 

@@ -1,12 +1,17 @@
 -- The first place at which a test fails: how it is found, and what it says.
 -- Assumes nothing.
 use mathlib.Core.Path.{_≡_, refl, ap, sym, _∙_}
-use mathlib.Core.Bool.{Bool, true, false, true≢false}
-use mathlib.Core.Logic.{⊎-elim}
+use mathlib.Core.Bool.{Bool, true, false, _&&_, true≢false}
+use mathlib.Core.Logic.{_⊎_, inl, inr, ⊎-elim}
+use mathlib.Core.List.{List}
 use Prim.Native.Nat.{ℕ, zero, suc, _+_, _-_, _<_, _≤_}
 use native.Mathlib.Omega.{arith}
+use lib.ListN.{getD}
+use lib.Dec.{ltb}
+use borrow.Author.Tests.{ltb-true}
 use Rattle.geometry.specs.Choice.{pick}
-use Rattle.geometry.specs.TestLaws.{same-or-not}
+use Rattle.geometry.specs.TestLaws.{same-or-not, and-true-each}
+use Rattle.lists.specs.Lists.{bag, Each}
 use Rattle.scans.specs.Tests.{firstFrom}
 
 left-suc : (n i : ℕ) → i < n → n - i ≡ suc (n - (i + 1))
@@ -62,3 +67,18 @@ module _ (p : ℕ → Bool) (n r : ℕ) (is : r ≡ firstFrom p 0 n) where
 
   pub all-lowest : ((i : ℕ) → i < n → p i ≡ true) → r ≡ n
   all-lowest f = let s = scanned p 0 n in ⊎-elim (λ e. e) (λ d. absurd (let l : r < n = omega (arith, s .within .1) in true≢false (sym (f r l) ∙ lowest-breaks l))) (same-or-not r n)
+
+-- Entries that are all below n: one more of them, and all.
+pub below-more : (t : List ℕ) (n k : ℕ) {a b : Bool} → b ≡ (a && ltb (getD t k 0) n) → (a ≡ true → Each (λ x. x < n) (bag t k)) → b ≡ true
+    → Each (λ x. x < n) (bag t (k + 1))
+below-more t n k {a} {b} is f e j h = go (same-or-not j k)
+  where
+    both : (a ≡ true) × (ltb (getD t k 0) n ≡ true)
+    both = and-true-each a (ltb (getD t k 0) n) (sym is ∙ e)
+
+    go : (j ≡ k) ⊎ (j ≡ k → ⊥) → getD t j 0 < n
+    go (inl q) = rw q (ltb-true (getD t k 0) n (both .1))
+    go (inr q) = f (both .0) j (omega arith)
+
+pub below-all : (t : List ℕ) (n k len : ℕ) → Each (λ x. x < n) (bag t k) → len ≤ k → Each (λ x. x < n) (bag t len)
+below-all t n k len f l j h = f j (omega arith)
