@@ -8,7 +8,7 @@ use Rattle.geometry.specs.Sides.{setupOf}
 use Rattle.slots.specs.Slots.{slot}
 use Rattle.table.specs.Table.{nodeAt}
 use Rattle.slots.specs.declared.NodeKind.the-variants.{Free}
-use Rattle.lists.specs.FreeLists.{listOf}
+use Rattle.buckets.specs.FreeLists.{listOf}
 use Rattle.steps.specs.State.{State, listsOf}
 use Rattle.sound.specs.View.{seen}
 use Rattle.sound.specs.Sound.{HasEntry, ownBucket, Listed}

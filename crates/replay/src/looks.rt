@@ -1,6 +1,6 @@
 // What is read off the state that the list tells of: our lookup and our "is it empty", held against the list.
-use tickets::AllocId;
 use steps::Head;
+use tickets::AllocId;
 use views::Emptiness;
 use views::Looked;
 
