@@ -41,8 +41,8 @@ abbrev pub asGrant : Given Crop → Grant
 asGrant o = grant (o .answer) (o .value .ticket) (o .value .rect) (o .after)
 
 -- No other outcome meets the contract.
-pub allocate-once : {size : Size} {s : State} {o p : Given Crop} → AllocateCall size s o → AllocateCall size s p → o ≡ p
-allocate-once = answers-once
+pub allocate-once : (size : Size) (s : State) {o p : Given Crop} → AllocateCall size s o → AllocateCall size s p → o ≡ p
+allocate-once size s = answers-once
 
 -- What holds of the two refusals of a request and of a request that is taken, holds on sound tables.
 on-request : (s : State) (size : Size) (P : Grant → Type 0) → (asks s size ≡ NotPositive → P (refused 4 s)) → (asks s size ≡ TooLarge → P (refused 5 s))
