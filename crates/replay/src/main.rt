@@ -5,9 +5,9 @@ mod agree;
 mod calls;
 mod leaves;
 mod looks;
+mod rebuilt;
 mod report;
 mod take;
-mod tickets;
 mod told;
 mod verdict;
 

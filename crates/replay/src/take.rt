@@ -4,7 +4,7 @@ use crate::agree;
 use crate::calls;
 use crate::leaves;
 use crate::looks;
-use crate::tickets;
+use crate::rebuilt;
 use crate::told;
 use crate::verdict;
 use crate::verdict::Verdict;
