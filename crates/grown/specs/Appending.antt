@@ -22,6 +22,7 @@ use Rattle.steps.specs.declared.Head.{Head}
 use Rattle.sound.specs.View.{none, linkOf, Seen, seen, inUse, Live}
 use Rattle.sound.specs.Rules.{NotEmpty, Adjoin, join}
 use Rattle.forest.specs.Pigeon.{In, In-dec}
+use Rattle.forest.specs.Back.{no-link}
 use Rattle.changes.specs.Stretches.{Grown}
 use Rattle.changes.specs.Grows.{Append, append-grows}
 use Rattle.changes.specs.TidyGrows.{append-merged}
@@ -34,8 +35,8 @@ use Rattle.granted.specs.Terms.{spareAt}
 use Rattle.granted.specs.Writes.{seen-same, seen-other, slot-link}
 use Rattle.grants.specs.Grants.{withLists}
 use Rattle.entries.specs.Entries.{entered}
-use Rattle.grows.specs.Grows.{appendedTo, tailNode}
-use Rattle.grown.specs.Fills.{Fills, Carries}
+use Rattle.grows.specs.Grows.{withRoot, appendedTo, tailNode}
+use Rattle.grown.specs.Fills.{Fills, Carries, Lone, Roots}
 use Rattle.grown.specs.Changed.{Change, change-fills, change-carries}
 use Rattle.grown.specs.Restock.{fills-stocked, more-stocks}
 
@@ -131,11 +132,25 @@ module _ (s : State) (all : Rectangle) (L : LentOf s) (S : Fills s all) (i : All
       let root : f .head .root ≡ s .head .root = ap (λ (z : Head). z .root) (T .head) in
       (grows .0, rw root (change-fills L S T (s .head .root) changes entry-new), rw root (change-carries L S T (s .head .root) changes entry-new))
 
+  roots : (Lone s → ⊥) → Roots s (withLists (f .head) w′ (f .generations) (entered w′ (setupAt s) (f .taken) t (listsOf s)))
+  roots lone = let root : f .head .root ≡ s .head .root = ap (λ (z : Head). z .root) (T .head) in rw root (go (ℕ-discrete (s .head .root .0) (i .0)))
+    where
+      go : Dec (s .head .root .0 ≡ i .0) → Roots s (withLists (withRoot (f .head) (s .head .root)) w′ (f .generations) (entered w′ (setupAt s) (f .taken) t (listsOf s)))
+      go (yes e) = record {
+        orientation = rw (e, writes .chosen) refl;
+        lone = λ z. no-link {i = f .taken .0} (sym (z .1) ∙ rw (e, writes .chosen) refl);
+      }
+      go (no e) =
+          let same = writes .other (s .head .root .0) (⊎-elim e (λ m. T .taken .idle (s .head .root .0) m (S .rule3 .root-live))) in
+          record { orientation = rw same refl; lone = λ z. lone (rw same at (z .0), rw same at (z .1)) }
+
 -- AN APPEND after the last slot of the top chain keeps every rule.
 pub append-steps : (s : State) (all : Rectangle) → LentOf s → Fills s all → (i : AllocIndex) (t : Rectangle) → Live (seen (s .words)) (s .head .count) (i .0)
     → (seen (s .words) (i .0) .kind ≡ Free → ⊥) → seen (s .words) (i .0) .parent ≡ none → seen (s .words) (i .0) .next ≡ none
-    → NotEmpty t → Adjoin (seen (s .words) (i .0) .orientation) (seen (s .words) (i .0) .rect) t → 1 ≤ spareAt s
+    → NotEmpty t → Adjoin (seen (s .words) (i .0) .orientation) (seen (s .words) (i .0) .rect) t → 1 ≤ spareAt s → (Lone s → ⊥)
     → Adjoin (seen (s .words) (s .head .root .0) .orientation) all t × Fills (appendedTo s i (seen (s .words) (i .0) .orientation) t) (join all t)
-    × Carries s (appendedTo s i (seen (s .words) (i .0) .orientation) t) 1
+    × Carries s (appendedTo s i (seen (s .words) (i .0) .orientation) t) 1 × Roots s (appendedTo s i (seen (s .words) (i .0) .orientation) t)
 unfolding appendedTo
-append-steps s all L S i t lv solid p x some ad spare = appends s all L S i t lv solid p x some ad spare _ refl
+append-steps s all L S i t lv solid p x some ad spare lone =
+    let a = appends s all L S i t lv solid p x some ad spare _ refl in
+    (a .0, a .1, a .2, roots s all L S i t lv solid p x some ad spare _ refl lone)

@@ -41,7 +41,7 @@ use Rattle.granted.specs.Writes.{seen-same, seen-other, slot-link, length-pair}
 use Rattle.grants.specs.Grants.{withLists}
 use Rattle.entries.specs.Entries.{entered}
 use Rattle.grows.specs.Grows.{withRoot, reparented, grownAcross}
-use Rattle.grown.specs.Fills.{Fills, Carries}
+use Rattle.grown.specs.Fills.{Fills, Carries, Lone}
 use Rattle.grown.specs.Changed.{Change, change-fills, change-carries}
 use Rattle.grown.specs.Chains.{OnTop, top-ends, top-visits, visited-on-top}
 use Rattle.grown.specs.Reparents.{length-reparented, reparented-chain}
@@ -118,8 +118,7 @@ module _ (w : List ℕ) (few : length w ≤ 32768) (n n′ : ℕ) (root : AllocI
   }
 
 module _ (s : State) (all : Rectangle) (L : LentOf s) (S : Fills s all) (t : Rectangle)
-    (lone : seen (s .words) (s .head .root .0) .kind ≡ Free → seen (s .words) (s .head .root .0) .next ≡ none → ⊥)
-    (some : NotEmpty t) (ad : Adjoin (flip (seen (s .words) (s .head .root .0) .orientation)) all t) (spare : 2 ≤ spareAt s)
+    (lone : Lone s → ⊥) (some : NotEmpty t) (ad : Adjoin (flip (seen (s .words) (s .head .root .0) .orientation)) all t) (spare : 2 ≤ spareAt s)
     (f : Fresh) (fresh : f ≡ newNode (s .words) (s .generations) (s .head)) (e : Fresh) (next : e ≡ newNode (s .words) (f .generations) (f .head)) where
   abbrev o : Orientation
   o = seen (s .words) (s .head .root .0) .orientation
@@ -166,7 +165,7 @@ module _ (s : State) (all : Rectangle) (L : LentOf s) (S : Fills s all) (t : Rec
     grown = root-grows (seen (s .words)) (seen w′) (s .head .count) (e .head .count) (s .head .root .0) (e .taken .0) (f .taken .0) noRect t (S .rule3) (T .taken) writes
         all (S .rule5) some ad;
     merged = root-merged (seen (s .words)) (seen w′) (s .head .count) (e .head .count) (s .head .root .0) (e .taken .0) (f .taken .0) (flip o) noRect t
-        (S .rule3) (T .taken) writes lone (S .rule4);
+        (S .rule3) (T .taken) writes (λ k x. lone (k, x)) (S .rule4);
     words = len;
     new-kind = λ j m. ⊎-elim {C = (seen w′ j .kind ≡ Container) ⊎ (seen w′ j .kind ≡ Free)} (λ q. inl (rw q (ap (λ (z : Seen). z .kind) (writes .root))))
         (⊎-elim {C = (seen w′ j .kind ≡ Container) ⊎ (seen w′ j .kind ≡ Free)} (λ q. inr (rw q (ap (λ (z : Seen). z .kind) (writes .free)))) (λ z. absurd z)) m;
@@ -194,8 +193,7 @@ module _ (s : State) (all : Rectangle) (L : LentOf s) (S : Fills s all) (t : Rec
 
 -- ACROSS: a new root over a top chain that is not one Free slot, with a Free slot after it that adjoins its place, keeps every rule.
 pub cross-steps : (s : State) (all : Rectangle) → LentOf s → Fills s all → (t : Rectangle)
-    → (seen (s .words) (s .head .root .0) .kind ≡ Free → seen (s .words) (s .head .root .0) .next ≡ none → ⊥)
-    → NotEmpty t → Adjoin (flip (seen (s .words) (s .head .root .0) .orientation)) all t → 2 ≤ spareAt s
+    → (Lone s → ⊥) → NotEmpty t → Adjoin (flip (seen (s .words) (s .head .root .0) .orientation)) all t → 2 ≤ spareAt s
     → Fills (grownAcross s t) (join all t) × Carries s (grownAcross s t) 2
 unfolding grownAcross seen w′
 cross-steps s all L S t lone some ad spare = crosses s all L S t lone some ad spare _ refl _ refl

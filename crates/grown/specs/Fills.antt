@@ -1,13 +1,13 @@
 -- Tables that are sound but for what the top chain fills, and what each step of a grow keeps.
 -- Assumes nothing.
 use Prim.Native.Nat.{ℕ, _+_, _≤_, _<_}
-use mathlib.Core.Path.{_≡_, refl, _∙_}
+use mathlib.Core.Path.{_≡_, refl, _∙_, ap}
 use native.Mathlib.Omega.{arith}
 use lib.ListN.{getD}
 use Rattle.geometry.specs.declared.Rectangle.{Rectangle}
-use Rattle.slots.specs.declared.NodeKind.the-variants.{Alloc}
+use Rattle.slots.specs.declared.NodeKind.the-variants.{Alloc, Free}
 use Rattle.steps.specs.State.{State}
-use Rattle.sound.specs.View.{linkOf, seen, Live}
+use Rattle.sound.specs.View.{none, linkOf, seen, inUse, Live}
 use Rattle.sound.specs.Rules.{PlaceChain}
 use Rattle.sound.specs.Sound.{Counted, SpareChain, Linked, Merged, Listed, LastTrue, Sound, sheetOf}
 use Rattle.lent.specs.Lent.{LentOf}
@@ -61,15 +61,23 @@ carries-same L = record {
 }
 
 -- One step after another.
-pub carries-both : {s t u : State} {k m : ℕ} → Carries s t k → Carries t u m → ((j : ℕ) → j < s .head .count → seen (s .words) j .kind ≡ Alloc → j < t .head .count)
-    → Carries s u (k + m)
-carries-both A B below = record {
+pub carries-both : {s t u : State} {k m : ℕ} → Carries s t k → Carries t u m → Carries s u (k + m)
+carries-both A B = record {
   lent = B .lent;
   sheet = B .sheet ∙ A .sheet;
   options = B .options ∙ A .options;
   spares = let a = A .spares in let b = B .spares in omega arith;
   lives = λ j l. B .lives j (A .lives j l);
   generations = λ j l. B .generations j (A .lives j l) ∙ A .generations j l;
-  allocs = λ j l a. let x = A .allocs j l a in let y = B .allocs j (below j l a) (x .0) in (y .0, y .1 ∙ x .1);
+  allocs = λ j l a. let x = A .allocs j l a in let y = B .allocs j (A .lives j (l, ap inUse a) .0) (x .0) in (y .0, y .1 ∙ x .1);
   only = λ j l a. let x = B .only j l a in A .only j (x .0) (x .1);
 }
+
+-- The root is one Free slot without next.
+abbrev pub Lone : State → Type 0
+Lone s = (seen (s .words) (s .head .root .0) .kind ≡ Free) × (seen (s .words) (s .head .root .0) .next ≡ none)
+
+-- The root keeps its orientation, and is no lone Free slot.
+pub record Roots (s t : State) : Type 0 where
+  pub orientation : seen (t .words) (t .head .root .0) .orientation ≡ seen (s .words) (s .head .root .0) .orientation
+  pub lone : Lone t → ⊥

@@ -6,3 +6,9 @@ pub mod Restock
 pub mod Stretching
 pub mod Appending
 pub mod Crossing
+pub mod Growths
+pub mod Filled
+pub mod Both
+pub mod Terms
+pub mod Whole
+pub mod Promises

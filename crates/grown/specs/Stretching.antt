@@ -31,7 +31,7 @@ use Rattle.granted.specs.Stocked.{Stocked, push-stocks}
 use Rattle.granted.specs.Carved.{piece}
 use Rattle.granted.specs.Writes.{seen-same, seen-other}
 use Rattle.grows.specs.Grows.{stretched, moved}
-use Rattle.grown.specs.Fills.{Fills, Carries}
+use Rattle.grown.specs.Fills.{Fills, Carries, Lone, Roots}
 use Rattle.grown.specs.Changed.{Change, change-fills, change-carries}
 use Rattle.grown.specs.Restock.{fills-stocked, forget-stocks}
 
@@ -110,3 +110,11 @@ last-steps s all L S i t lv free p x some ad =
     (i .0) t (stretch-writes s all L S i q lv free) lv free p x some ad in
     let z = stretch-steps s all L S i q lv free (g .1) in
     (g .0, z .0, z .1)
+
+-- The root is another slot, if it is no lone Free one.
+pub last-roots : (s : State) (all : Rectangle) → LentOf s → Fills s all → (i : AllocIndex) (q : Rectangle) → Live (seen (s .words)) (s .head .count) (i .0)
+    → seen (s .words) (i .0) .kind ≡ Free → seen (s .words) (i .0) .next ≡ none → (Lone s → ⊥) → Roots s (stretched s i q)
+unfolding stretched
+last-roots s all L S i q lv free x lone =
+    let same = stretch-writes s all L S i q lv free .other (s .head .root .0) (⊎-elim (λ e. lone (rw e free, rw e x)) (λ z. z)) in
+    record { orientation = rw same refl; lone = λ z. lone (rw same at (z .0), rw same at (z .1)) }
