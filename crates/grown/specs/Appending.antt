@@ -1,6 +1,6 @@
 -- A new Free slot after the last slot of the top chain.
 -- Assumes nothing.
-use Prim.Native.Nat.{ℕ, _*_, _≤_, _<_}
+use Prim.Native.Nat.{ℕ, _≤_}
 use mathlib.Core.Path.{_≡_, refl, sym, _∙_, ap}
 use mathlib.Core.Bool.{true, false, false≢true}
 use mathlib.Core.Logic.{inl, inr, ⊎-elim}
@@ -10,7 +10,6 @@ use native.Mathlib.Decide.{ℕ-discrete}
 use lib.ListN.{length}
 use Rattle.geometry.specs.declared.Orientation.{Orientation}
 use Rattle.geometry.specs.declared.Rectangle.{Rectangle}
-use Rattle.slots.specs.Slots.{slot}
 use Rattle.slots.specs.declared.AllocIndex.{AllocIndex}
 use Rattle.slots.specs.declared.NodeKind.the-variants.{Free}
 use Rattle.table.specs.Table.{HasSlot}
@@ -19,9 +18,9 @@ use Rattle.table.specs.TableLaws.{length-stored, has-stored}
 use Rattle.steps.specs.Spares.{Fresh, newNode}
 use Rattle.steps.specs.State.{State, listsOf}
 use Rattle.steps.specs.declared.Head.{Head}
-use Rattle.sound.specs.View.{none, linkOf, Seen, seen, inUse, Live}
+use Rattle.sound.specs.View.{none, linkOf, Seen, seen, Live}
 use Rattle.sound.specs.Rules.{NotEmpty, Adjoin, join}
-use Rattle.forest.specs.Pigeon.{In, In-dec}
+use Rattle.forest.specs.Pigeon.{In}
 use Rattle.forest.specs.Back.{no-link}
 use Rattle.changes.specs.Stretches.{Grown}
 use Rattle.changes.specs.Grows.{Append, append-grows}

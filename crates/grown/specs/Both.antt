@@ -1,7 +1,7 @@
 -- Grow in two steps: along the root's orientation, then across it, each if the sheet grows that way.
 -- Assumes nothing.
 use Prim.Native.Nat.{ℕ, _+_, _≤_, _<_}
-use mathlib.Core.Path.{_≡_, refl, sym, _∙_, ap, subst}
+use mathlib.Core.Path.{_≡_, refl}
 use mathlib.Core.Bool.{Bool, true, false, _&&_, not}
 use native.Mathlib.Omega.{arith}
 use lib.Dec.{ltb}
@@ -14,7 +14,6 @@ use Rattle.geometry.specs.declared.Rectangle.{Rectangle}
 use Rattle.geometry.specs.declared.Size.{Size}
 use Rattle.slots.specs.declared.AllocIndex.{AllocIndex}
 use Rattle.slots.specs.declared.NodeKind.the-variants.{Free}
-use Rattle.table.specs.Table.{nodeAt}
 use Rattle.lists.specs.Lists.{freeEntry}
 use Rattle.steps.specs.State.{State}
 use Rattle.sound.specs.View.{none, seen}

@@ -9,7 +9,7 @@ use Rattle.geometry.specs.declared.Orientation.{Orientation}
 use Rattle.slots.specs.Slots.{isNone}
 use Rattle.slots.specs.declared.AllocIndex.{AllocIndex}
 use Rattle.table.specs.Table.{nodeAt}
-use Rattle.sound.specs.View.{Link, none, to, linkOf, Seen, seen, inUse, Live}
+use Rattle.sound.specs.View.{Link, none, to, Seen, seen, inUse, Live}
 use Rattle.sound.specs.Rules.{Visits, it, later}
 use Rattle.sound.specs.Sound.{Linked}
 use Rattle.forest.specs.Pigeon.{In}

@@ -1,9 +1,9 @@
 -- What a step of a grow changes in the slot table keeps the tables sound, but for what the top chain fills.
 -- Assumes nothing.
-use Prim.Native.Nat.{ℕ, zero, suc, _+_, _-_, _*_, _≤_, _<_}
-use mathlib.Core.Path.{_≡_, refl, sym, _∙_, ap}
+use Prim.Native.Nat.{ℕ, zero, suc, _-_}
+use mathlib.Core.Path.{_≡_, sym, _∙_, ap}
 use mathlib.Core.Bool.{true}
-use mathlib.Core.Logic.{_⊎_, inl, inr, ⊎-elim}
+use mathlib.Core.Logic.{_⊎_, ⊎-elim}
 use mathlib.Core.List.{List, []}
 use native.Mathlib.Omega.{arith}
 use lib.ListN.{length}
@@ -15,10 +15,10 @@ use Rattle.buckets.specs.FreeLists.{Lists}
 use Rattle.steps.specs.Spares.{unusedBelow}
 use Rattle.steps.specs.State.{State, listsOf}
 use Rattle.steps.specs.declared.Head.{Head}
-use Rattle.sound.specs.View.{Link, none, to, linkOf, Seen, seen, inUse, Live, Dead}
+use Rattle.sound.specs.View.{Link, linkOf, seen, inUse, Dead}
 use Rattle.sound.specs.Rules.{Visits, it, later}
 use Rattle.sound.specs.Sound.{Merged, SpareChain}
-use Rattle.forest.specs.Pigeon.{In, In-dec}
+use Rattle.forest.specs.Pigeon.{In}
 use Rattle.forest.specs.Ends.{EndsIn, ends-unique}
 use Rattle.forest.specs.Spare.{spare-steps}
 use Rattle.links.specs.SpareLaws.{unused-count}
@@ -50,7 +50,8 @@ ends-same f f′ l (suc k) h e =
     let i = e .0 in
     (i, e .1, rw (h i (rw (e .1) it)) (ends-same f f′ (f i) k (λ j v. h j (rw (e .1) (later {i = i} v))) (e .2)))
 
-not-alloc : {k : NodeKind} → k ≡ Alloc → (k ≡ Container) ⊎ (k ≡ Free) → ⊥
+-- An Alloc slot is no Container and not Free.
+pub not-alloc : {k : NodeKind} → k ≡ Alloc → (k ≡ Container) ⊎ (k ≡ Free) → ⊥
 not-alloc {k} e h = ⊎-elim (λ f. let z : _≡_ {A = ℕ} 0 1 = cc in omega arith) (λ f. let z : _≡_ {A = ℕ} 0 1 = cc in omega arith) h
 
 module _ {s : State} {w′ g′ new : List ℕ} {h′ : Head} {all was : Rectangle} (L : LentOf s) (S : Fills s was)

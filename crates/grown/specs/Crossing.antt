@@ -1,6 +1,6 @@
 -- A new root over the top chain, and a Free slot after it.
 -- Assumes nothing.
-use Prim.Native.Nat.{ℕ, _*_, _≤_, _<_}
+use Prim.Native.Nat.{ℕ, _≤_, _<_}
 use mathlib.Core.Path.{_≡_, refl, sym, _∙_, ap}
 use mathlib.Core.Bool.{Bool, true, false, false≢true}
 use mathlib.Core.Logic.{_⊎_, inl, inr, ⊎-elim}
@@ -12,21 +12,20 @@ use Rattle.geometry.specs.declared.Orientation.{Orientation}
 use Rattle.geometry.specs.declared.Rectangle.{Rectangle}
 use Rattle.slots.specs.Slots.{slot}
 use Rattle.slots.specs.declared.AllocIndex.{AllocIndex}
-use Rattle.slots.specs.declared.NodeKind.{NodeKind}
-use Rattle.slots.specs.declared.NodeKind.the-variants.{Container, Alloc, Free}
-use Rattle.table.specs.Table.{nodeAt, HasSlot}
+use Rattle.slots.specs.declared.NodeKind.the-variants.{Container, Free}
+use Rattle.table.specs.Table.{HasSlot}
 use Rattle.table.specs.Stores.{stored, toNode}
-use Rattle.table.specs.TableLaws.{length-stored, has-stored}
+use Rattle.table.specs.TableLaws.{has-stored}
 use Rattle.steps.specs.Spares.{Fresh, newNode}
 use Rattle.steps.specs.State.{State, listsOf}
-use Rattle.sound.specs.View.{none, to, linkOf, Seen, seen, inUse, Live}
+use Rattle.sound.specs.View.{none, to, linkOf, Seen, seen, Live}
 use Rattle.sound.specs.Rules.{NotEmpty, Adjoin, join, Visits}
 use Rattle.sound.specs.Sound.{Linked}
-use Rattle.forest.specs.Pigeon.{In, In-dec}
+use Rattle.forest.specs.Pigeon.{In}
 use Rattle.links.specs.LinkLaws.{live-is}
 use Rattle.links.specs.Links.{liveAt}
 use Rattle.changes.specs.Stands.{cell}
-use Rattle.changes.specs.Stretches.{Grown}
+use Rattle.changes.specs.Stretches.{free-box}
 use Rattle.changes.specs.Swaps.{Taken}
 use Rattle.changes.specs.Roots.{NewRoot, withParent, root-moves, root-grows}
 use Rattle.changes.specs.TidyGrows.{root-merged}
@@ -43,7 +42,7 @@ use Rattle.entries.specs.Entries.{entered}
 use Rattle.grows.specs.Grows.{withRoot, reparented, grownAcross}
 use Rattle.grown.specs.Fills.{Fills, Carries, Lone}
 use Rattle.grown.specs.Changed.{Change, change-fills, change-carries}
-use Rattle.grown.specs.Chains.{OnTop, top-ends, top-visits, visited-on-top}
+use Rattle.grown.specs.Chains.{top-ends, top-visits, visited-on-top}
 use Rattle.grown.specs.Reparents.{length-reparented, reparented-chain}
 use Rattle.grown.specs.Restock.{fills-stocked, more-stocks}
 
@@ -52,9 +51,6 @@ record SameButParent (m m′ : Seen) : Type 0 where
   pub kind : m′ .kind ≡ m .kind
   pub next : m′ .next ≡ m .next
   pub rect : m′ .rect ≡ m .rect
-
-not-free : {k : NodeKind} → k ≡ Free → k ≡ Container → ⊥
-not-free p q = let z : _≡_ {A = ℕ} 0 1 = cc in omega arith
 
 -- Two slots without parent, a and then b, which is Free.
 record TopPair (get get′ : ℕ → Seen) (o : Orientation) (a : ℕ) (r : Rectangle) (b : ℕ) (t : Rectangle) : Type 0 where
@@ -184,7 +180,7 @@ module _ (s : State) (all : Rectangle) (L : LentOf s) (S : Fills s all) (t : Rec
       still : (j : ℕ) → j < e .head .count → seen w′ j .kind ≡ Free → (In j (f .taken .0 ∷ []) → ⊥)
           → (j < s .head .count) × (seen (s .words) j .kind ≡ Free) × (seen w′ j .rect ≡ seen (s .words) j .rect)
       still j b k m =
-          let out : In j new → ⊥ = ⊎-elim (λ q. not-free k (rw q (ap (λ (z : Seen). z .kind) (writes .root)))) m in
+          let out : In j new → ⊥ = ⊎-elim (λ q. free-box k (rw q (ap (λ (z : Seen). z .kind) (writes .root)))) m in
           (T .taken .counted j b out, sym (was j out .kind) ∙ k, was j out .rect)
 
   crosses : Fills (withLists (withRoot (e .head) (e .taken)) w′ (e .generations) (entered w′ (setupAt s) (f .taken) t (listsOf s))) (join all t)

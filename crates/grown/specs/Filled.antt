@@ -13,7 +13,7 @@ use Rattle.sound.specs.Sound.{Linked, LastTrue}
 use Rattle.forest.specs.Forest.{slot}
 use Rattle.forest.specs.Bridge.{forest}
 use Rattle.forest.specs.Fill.{place-not-empty}
-use Rattle.forest.specs.Place.{PlaceF, table-slot-place}
+use Rattle.forest.specs.Place.{table-slot-place}
 use Rattle.changes.specs.Frame.{placed-chain}
 use Rattle.changes.specs.Gaps.{parentAt, prevAt, orientationAt, rep-fill}
 use Rattle.changes.specs.Pieces.{leaf-filled}

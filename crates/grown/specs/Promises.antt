@@ -1,7 +1,7 @@
 -- THE PROMISES of grow, for sound tables whose lengths are in range and a size to which a grow is due.
 -- Assumes nothing but that.
 use Prim.Native.Nat.{ℕ, _<_}
-use mathlib.Core.Path.{_≡_, refl, sym, _∙_, ap}
+use mathlib.Core.Path.{_≡_, sym, _∙_, ap}
 use Rattle.geometry.specs.Sides.{natural}
 use Rattle.geometry.specs.declared.Size.{Size}
 use Rattle.tickets.specs.Tickets.{slotOf}

@@ -13,7 +13,7 @@ use Rattle.slots.specs.declared.AllocIndex.{AllocIndex}
 use Rattle.table.specs.Table.{nodeAt, HasSlot}
 use Rattle.table.specs.Stores.{stored, toParent}
 use Rattle.table.specs.TableLaws.{length-stored, has-stored}
-use Rattle.sound.specs.View.{Link, none, to, linkOf, Seen, seen}
+use Rattle.sound.specs.View.{Link, to, linkOf, Seen, seen}
 use Rattle.sound.specs.Rules.{Visits, it, later}
 use Rattle.forest.specs.Ends.{EndsIn, in-ends}
 use Rattle.forest.specs.Spare.{none-visits, visits-step, chain-visits-once}

@@ -4,18 +4,16 @@ use Prim.Native.Nat.{ℕ, _≤_, _<_}
 use mathlib.Core.Path.{_≡_, refl, sym, _∙_, ap}
 use mathlib.Core.Logic.{inl}
 use mathlib.Core.List.{List, [], _∷_}
-use Rattle.geometry.specs.Sides.{setupOf}
 use Rattle.geometry.specs.declared.Rectangle.{Rectangle}
 use Rattle.geometry.specs.declared.Setup.{Setup}
 use Rattle.slots.specs.declared.NodeKind.the-variants.{Free}
-use Rattle.lists.specs.Counts.{occurrences}
 use Rattle.lists.specs.OccurrenceLaws.{place-occurs}
 use Rattle.buckets.specs.FreeLists.{Lists, listOf, forgotten}
 use Rattle.buckets.specs.ForgetLaws.{forgotten-others, forgotten-within, forgotten-length, each-forgotten}
 use Rattle.steps.specs.State.{State, listsOf}
 use Rattle.sound.specs.View.{Seen, seen}
 use Rattle.forest.specs.Pigeon.{In}
-use Rattle.granted.specs.Filed.{Filed, filed-more}
+use Rattle.granted.specs.Filed.{filed-more}
 use Rattle.granted.specs.SoundFacts.{setupAt}
 use Rattle.granted.specs.Stocked.{Stocked, bucketAt}
 use Rattle.grown.specs.Fills.{Fills}

@@ -1,26 +1,21 @@
 -- A Free slot stretched: a lone Free root to any rectangle, the last slot of the top chain by a rectangle that adjoins it.
 -- Assumes nothing.
-use Prim.Native.Nat.{ℕ, _≤_, _<_}
+use Prim.Native.Nat.{ℕ}
 use mathlib.Core.Path.{_≡_, refl, sym, _∙_, ap}
 use mathlib.Core.Bool.{true, false, false≢true}
 use mathlib.Core.Logic.{inl, inr, ⊎-elim}
-use mathlib.Core.List.{List, [], _∷_}
+use mathlib.Core.List.{List, []}
 use native.Mathlib.Omega.{arith}
 use native.Mathlib.Decide.{ℕ-discrete}
-use lib.ListN.{length}
 use Rattle.geometry.specs.declared.Rectangle.{Rectangle}
 use Rattle.slots.specs.declared.AllocIndex.{AllocIndex}
-use Rattle.slots.specs.declared.NodeKind.{NodeKind}
-use Rattle.slots.specs.declared.NodeKind.the-variants.{Alloc, Free}
+use Rattle.slots.specs.declared.NodeKind.the-variants.{Free}
 use Rattle.table.specs.Table.{HasSlot}
 use Rattle.table.specs.Stores.{stored, toRect}
 use Rattle.table.specs.TableLaws.{length-stored}
-use Rattle.buckets.specs.FreeLists.{forgotten}
 use Rattle.steps.specs.State.{State, listsOf}
-use Rattle.sound.specs.View.{none, Seen, seen, inUse, Live}
+use Rattle.sound.specs.View.{none, Seen, seen, Live}
 use Rattle.sound.specs.Rules.{NotEmpty, Adjoin, join}
-use Rattle.forest.specs.Pigeon.{In}
-use Rattle.changes.specs.Stands.{cell}
 use Rattle.changes.specs.Stretches.{Grown}
 use Rattle.changes.specs.Grows.{Stretch, lone-grows, stretch-grows}
 use Rattle.changes.specs.TidyGrows.{stretch-merged}
@@ -32,11 +27,8 @@ use Rattle.granted.specs.Carved.{piece}
 use Rattle.granted.specs.Writes.{seen-same, seen-other}
 use Rattle.grows.specs.Grows.{stretched, moved}
 use Rattle.grown.specs.Fills.{Fills, Carries, Lone, Roots}
-use Rattle.grown.specs.Changed.{Change, change-fills, change-carries}
+use Rattle.grown.specs.Changed.{not-alloc, Change, change-fills, change-carries}
 use Rattle.grown.specs.Restock.{fills-stocked, forget-stocks}
-
-not-alloc : {k : NodeKind} → k ≡ Free → k ≡ Alloc → ⊥
-not-alloc e f = let z : _≡_ {A = ℕ} 0 1 = cc in omega arith
 
 -- The rectangle of a Free slot stored.
 pub rect-writes : (w : List ℕ) (i : AllocIndex) (q : Rectangle) → HasSlot w i → seen w (i .0) .kind ≡ Free → Stretch (seen w) (seen (stored w i (toRect q))) (i .0) q
@@ -66,7 +58,7 @@ module _ (s : State) (all : Rectangle) (L : LentOf s) (S : Fills s all) (i : All
         new-kind = λ j m. absurd m;
         kind = λ j m. by j (ℕ-discrete j (i .0));
         next = λ j d m. ap (λ (z : Seen). z .next) (op .other j (⊎-elim (λ e. false≢true (sym (d .1) ∙ rw e (lv .1))) (λ z. z)));
-        rect = λ j m a. ap (λ (z : Seen). z .rect) (op .other j (⊎-elim (λ e. not-alloc free (rw e at a)) (λ z. z)));
+        rect = λ j m a. ap (λ (z : Seen). z .rect) (op .other j (⊎-elim (λ e. not-alloc (rw e at a) (inr free)) (λ z. z)));
       }
     where
       by : (j : ℕ) → Dec (j ≡ i .0) → seen w′ j .kind ≡ seen (s .words) j .kind

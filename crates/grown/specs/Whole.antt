@@ -1,19 +1,16 @@
 -- The whole of a grow: a lone Free root is stretched, or the two steps are taken.
 -- Assumes nothing.
-use Prim.Native.Nat.{ℕ, _+_, _≤_}
-use mathlib.Core.Path.{_≡_, refl, sym, _∙_, ap}
-use mathlib.Core.Bool.{Bool, true, false, _&&_, not}
+use Prim.Native.Nat.{_+_, _≤_}
+use mathlib.Core.Path.{_≡_, refl}
+use mathlib.Core.Bool.{Bool, true, false}
 use native.Mathlib.Omega.{arith}
-use lib.Dec.{ltb}
 use Rattle.geometry.specs.Choice.{pick}
-use Rattle.geometry.specs.Rectangles.{flip}
-use Rattle.geometry.specs.Sides.{natural, setupOf}
+use Rattle.geometry.specs.Sides.{setupOf}
 use Rattle.geometry.specs.declared.Size.{Size}
-use Rattle.slots.specs.Slots.{isNone}
 use Rattle.slots.specs.declared.NodeKind.the-variants.{Free}
 use Rattle.table.specs.Table.{nodeAt}
 use Rattle.steps.specs.State.{State, state}
-use Rattle.sound.specs.View.{linkOf, seen}
+use Rattle.sound.specs.View.{seen}
 use Rattle.sound.specs.Rules.{NotEmpty}
 use Rattle.sound.specs.Sound.{Sound, sheetOf}
 use Rattle.links.specs.LinkLaws.{link-none}
