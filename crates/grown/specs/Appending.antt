@@ -28,7 +28,7 @@ use Rattle.changes.specs.TidyGrows.{append-merged}
 use Rattle.lent.specs.Lent.{LentOf}
 use Rattle.granted.specs.NewSlots.{Taking, start-taking, slot-taken, new-has-slot}
 use Rattle.granted.specs.SoundFacts.{setupAt, lent-few, lent-slots, lent-room}
-use Rattle.granted.specs.Stocked.{Stocked, push-stocks}
+use Rattle.granted.specs.Stocked.{Stocked, listed-stocked, push-stocks}
 use Rattle.granted.specs.Carved.{piece}
 use Rattle.granted.specs.Terms.{spareAt}
 use Rattle.granted.specs.Writes.{seen-same, seen-other, slot-link}
@@ -37,7 +37,7 @@ use Rattle.entries.specs.Entries.{entered}
 use Rattle.grows.specs.Grows.{withRoot, appendedTo, tailNode}
 use Rattle.grown.specs.Fills.{Fills, Carries, Lone, Roots}
 use Rattle.grown.specs.Changed.{Change, change-fills, change-carries}
-use Rattle.grown.specs.Restock.{fills-stocked, more-stocks}
+use Rattle.grown.specs.Restock.{more-stocks}
 
 -- The table with slot f linked after slot i.
 abbrev pub linkedAfter : List ℕ → AllocIndex → AllocIndex → Orientation → Rectangle → List ℕ
@@ -121,7 +121,7 @@ module _ (s : State) (all : Rectangle) (L : LentOf s) (S : Fills s all) (i : All
       let len = length-linked (s .words) i (f .taken) o t in
       push-stocks w′ (f .head .count) (setupAt s) (listsOf s) (rw len (let k = T .fits in omega (arith, lent-slots s L))) (rw len (lent-few s L)) (λ b. rw len (lent-room s L b))
       (piece (f .taken .0) t)
-      (more-stocks (f .taken .0 ∷ []) (fills-stocked S) (T .taken .grow) (λ j b k m. (T .taken .counted j b m, sym (was-kind j m) ∙ k, was-rect j m)))
+      (more-stocks (f .taken .0 ∷ []) (listed-stocked (S .rule1) (S .rule6)) (T .taken .grow) (λ j b k m. (T .taken .counted j b m, sym (was-kind j m) ∙ k, was-rect j m)))
       (T .taken .below (f .taken .0) (inl refl)) (ap (λ (z : Seen). z .rect) (writes .new))
 
   appends : Adjoin (seen (s .words) (s .head .root .0) .orientation) all t

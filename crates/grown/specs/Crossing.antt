@@ -10,12 +10,10 @@ use lib.ListN.{length}
 use Rattle.geometry.specs.Rectangles.{flip, noRect}
 use Rattle.geometry.specs.declared.Orientation.{Orientation}
 use Rattle.geometry.specs.declared.Rectangle.{Rectangle}
-use Rattle.slots.specs.Slots.{slot}
+use Rattle.slots.specs.Slots.{slot, none as nowhere}
 use Rattle.slots.specs.declared.AllocIndex.{AllocIndex}
 use Rattle.slots.specs.declared.NodeKind.the-variants.{Container, Free}
 use Rattle.table.specs.Table.{HasSlot}
-use Rattle.table.specs.Stores.{stored, toNode}
-use Rattle.table.specs.TableLaws.{has-stored}
 use Rattle.steps.specs.Spares.{Fresh, newNode}
 use Rattle.steps.specs.State.{State, listsOf}
 use Rattle.sound.specs.View.{none, to, linkOf, Seen, seen, Live}
@@ -24,19 +22,18 @@ use Rattle.sound.specs.Sound.{Linked}
 use Rattle.forest.specs.Pigeon.{In}
 use Rattle.links.specs.LinkLaws.{live-is}
 use Rattle.links.specs.Links.{liveAt}
-use Rattle.changes.specs.Stands.{cell}
 use Rattle.changes.specs.Stretches.{free-box}
 use Rattle.changes.specs.Swaps.{Taken}
 use Rattle.changes.specs.Roots.{NewRoot, withParent, root-moves, root-grows}
 use Rattle.changes.specs.TidyGrows.{root-merged}
 use Rattle.lent.specs.Lent.{LentOf}
-use Rattle.grants.specs.Carves.{pairUnder, firstNode, lastNode}
+use Rattle.grants.specs.Carves.{pairUnder}
 use Rattle.granted.specs.NewSlots.{Taking, start-taking, slot-taken, new-has-slot}
 use Rattle.granted.specs.SoundFacts.{setupAt, lent-few, lent-slots, lent-room}
-use Rattle.granted.specs.Stocked.{Stocked, push-stocks}
+use Rattle.granted.specs.Stocked.{Stocked, listed-stocked, push-stocks}
 use Rattle.granted.specs.Carved.{piece}
 use Rattle.granted.specs.Terms.{spareAt}
-use Rattle.granted.specs.Writes.{seen-same, seen-other, slot-link, length-pair}
+use Rattle.granted.specs.Writes.{Pair, pair-writes, slot-link, length-pair}
 use Rattle.grants.specs.Grants.{withLists}
 use Rattle.entries.specs.Entries.{entered}
 use Rattle.grows.specs.Grows.{withRoot, reparented, grownAcross}
@@ -44,7 +41,7 @@ use Rattle.grown.specs.Fills.{Fills, Carries, Lone}
 use Rattle.grown.specs.Changed.{Change, change-fills, change-carries}
 use Rattle.grown.specs.Chains.{top-ends, top-visits, visited-on-top}
 use Rattle.grown.specs.Reparents.{length-reparented, reparented-chain}
-use Rattle.grown.specs.Restock.{fills-stocked, more-stocks}
+use Rattle.grown.specs.Restock.{more-stocks}
 
 -- Of a slot only the parent may change.
 record SameButParent (m m′ : Seen) : Type 0 where
@@ -52,42 +49,20 @@ record SameButParent (m m′ : Seen) : Type 0 where
   pub next : m′ .next ≡ m .next
   pub rect : m′ .rect ≡ m .rect
 
--- Two slots without parent, a and then b, which is Free.
-record TopPair (get get′ : ℕ → Seen) (o : Orientation) (a : ℕ) (r : Rectangle) (b : ℕ) (t : Rectangle) : Type 0 where
-  pub first : get′ a ≡ cell none (to b) none Container o r
-  pub last : get′ b ≡ cell none none (to a) Free o t
-  pub other : (j : ℕ) → (In j (a ∷ b ∷ []) → ⊥) → get′ j ≡ get j
-
-abbrev noParent : AllocIndex
-noParent = slot 4294967295
-
-top-pair-writes : (w : List ℕ) → length w ≤ 32768 → (o : Orientation) (a : AllocIndex) (r : Rectangle) (b : AllocIndex) (t : Rectangle)
-    → HasSlot w a → HasSlot w b → (a .0 ≡ b .0 → ⊥) → TopPair (seen w) (seen (pairUnder w noParent o a Container r b t)) o (a .0) r (b .0) t
-unfolding seen pairUnder linkOf
-top-pair-writes w few o a r b t ha hb n =
-    let u = stored w a (toNode (firstNode noParent b Container o r)) in
-    let first = toNode (firstNode noParent b Container o r) in
-    let last = toNode (lastNode noParent a o t) in
-    record {
-      first = seen-other u b last (a .0) n ∙ (seen-same w a first ha ∙ rw (slot-link w few b hb));
-      last = seen-same u b last (has-stored w a b first hb) ∙ rw (slot-link w few a ha);
-      other = λ j m. seen-other u b last j (λ e. m (inr (inl e))) ∙ seen-other w a first j (λ e. m (inl e));
-    }
-
 -- THE STORES of a new root: the two slots, then the parent of each slot of the top chain.
 module _ (w : List ℕ) (few : length w ≤ 32768) (n n′ : ℕ) (root : AllocIndex) (L : Linked (seen w) n (root .0)) (has : (j : ℕ) → j < n → HasSlot w (slot j))
     (o : Orientation) (a b : AllocIndex) (t : Rectangle) (W : Taken (seen w) n n′ (a .0 ∷ b .0 ∷ []))
     (ha : HasSlot w a) (hb : HasSlot w b) (apart : a .0 ≡ b .0 → ⊥) where
   w0 : List ℕ
-  w0 = pairUnder w noParent o a Container noRect b t
+  w0 = pairUnder w nowhere o a Container noRect b t
 
-  pair : TopPair (seen w) (seen w0) o (a .0) noRect (b .0) t
-  unfolding w0
-  pair = top-pair-writes w few o a noRect b t ha hb apart
+  pair : Pair (seen w) (seen w0) none o (a .0) Container noRect (b .0) t
+  unfolding w0 linkOf
+  pair = pair-writes w few nowhere o a Container noRect b t refl ha hb apart
 
   len0 : length w0 ≡ length w
   unfolding w0
-  len0 = length-pair w noParent o a Container noRect b t
+  len0 = length-pair w nowhere o a Container noRect b t
 
   -- A slot of the top chain is not a new one.
   old : (j : ℕ) → Live (seen w) n j → seen w0 j ≡ seen w j
@@ -104,7 +79,7 @@ module _ (w : List ℕ) (few : length w ≤ 32768) (n n′ : ℕ) (root : AllocI
   unseen : (j : ℕ) → In j (a .0 ∷ b .0 ∷ []) → Visits (λ x. seen w x .next) j (to (root .0)) → ⊥
   unseen j m v = W .idle j m (visited-on-top w n (root .0) L j v .live)
 
-  pub root-writes : NewRoot (seen w) (seen (reparented n (pairUnder w noParent o a Container noRect b t) a root)) n (a .0) (b .0) o noRect t
+  pub root-writes : NewRoot (seen w) (seen (reparented n (pairUnder w nowhere o a Container noRect b t) a root)) n (a .0) (b .0) o noRect t
   unfolding w0
   root-writes = record {
     root = each (a .0) .1 (unseen (a .0) (inl refl)) ∙ pair .first;
@@ -123,7 +98,7 @@ module _ (s : State) (all : Rectangle) (L : LentOf s) (S : Fills s all) (t : Rec
   new = e .taken .0 ∷ f .taken .0 ∷ []
 
   w′ : List ℕ
-  w′ = reparented (s .head .count) (pairUnder (s .words) noParent (flip o) (e .taken) Container noRect (f .taken) t) (e .taken) (s .head .root)
+  w′ = reparented (s .head .count) (pairUnder (s .words) nowhere (flip o) (e .taken) Container noRect (f .taken) t) (e .taken) (s .head .root)
 
   -- The new slots,
   T : Taking (s .words) (s .generations) (s .head) new (e .generations) (e .head)
@@ -131,7 +106,7 @@ module _ (s : State) (all : Rectangle) (L : LentOf s) (S : Fills s all) (t : Rec
 
   len : length w′ ≡ length (s .words)
   unfolding w′
-  len = length-reparented (s .head .count) _ (e .taken) (s .head .root) ∙ length-pair (s .words) noParent (flip o) (e .taken) Container noRect (f .taken) t
+  len = length-reparented (s .head .count) _ (e .taken) (s .head .root) ∙ length-pair (s .words) nowhere (flip o) (e .taken) Container noRect (f .taken) t
 
   -- the stores,
   writes : NewRoot (seen (s .words)) (seen w′) (s .head .count) (e .taken .0) (f .taken .0) (flip o) noRect t
@@ -174,7 +149,7 @@ module _ (s : State) (all : Rectangle) (L : LentOf s) (S : Fills s all) (t : Rec
   entry-new : Stocked w′ (e .head .count) (setupAt s) (listsOf s) (entered w′ (setupAt s) (f .taken) t (listsOf s)) []
   entry-new =
       push-stocks w′ (e .head .count) (setupAt s) (listsOf s) (rw len (let k = T .fits in omega (arith, lent-slots s L))) (rw len (lent-few s L)) (λ b. rw len (lent-room s L b))
-      (piece (f .taken .0) t) (more-stocks (f .taken .0 ∷ []) (fills-stocked S) (T .taken .grow) still)
+      (piece (f .taken .0) t) (more-stocks (f .taken .0 ∷ []) (listed-stocked (S .rule1) (S .rule6)) (T .taken .grow) still)
       (T .taken .below (f .taken .0) (inr (inl refl))) (ap (λ (z : Seen). z .rect) (writes .free))
     where
       still : (j : ℕ) → j < e .head .count → seen w′ j .kind ≡ Free → (In j (f .taken .0 ∷ []) → ⊥)

@@ -1,29 +1,17 @@
 -- The free lists through a step of a grow.
 -- Assumes nothing.
 use Prim.Native.Nat.{ℕ, _≤_, _<_}
-use mathlib.Core.Path.{_≡_, refl, sym, _∙_, ap}
+use mathlib.Core.Path.{_≡_, sym, _∙_, ap}
 use mathlib.Core.Logic.{inl}
 use mathlib.Core.List.{List, [], _∷_}
-use Rattle.geometry.specs.declared.Rectangle.{Rectangle}
 use Rattle.geometry.specs.declared.Setup.{Setup}
 use Rattle.slots.specs.declared.NodeKind.the-variants.{Free}
-use Rattle.lists.specs.OccurrenceLaws.{place-occurs}
-use Rattle.buckets.specs.FreeLists.{Lists, listOf, forgotten}
+use Rattle.buckets.specs.FreeLists.{Lists, forgotten}
 use Rattle.buckets.specs.ForgetLaws.{forgotten-others, forgotten-within, forgotten-length, each-forgotten}
-use Rattle.steps.specs.State.{State, listsOf}
 use Rattle.sound.specs.View.{Seen, seen}
 use Rattle.forest.specs.Pigeon.{In}
 use Rattle.granted.specs.Filed.{filed-more}
-use Rattle.granted.specs.SoundFacts.{setupAt}
 use Rattle.granted.specs.Stocked.{Stocked, bucketAt}
-use Rattle.grown.specs.Fills.{Fills}
-
--- The lists of tables that keep rules 1 and 6.
-pub fills-stocked : {s : State} {all : Rectangle} → Fills s all → Stocked (s .words) (s .head .count) (setupAt s) (listsOf s) (listsOf s) []
-fills-stocked {s} S = record {
-  filed = record { within = S .rule1 .within; tables = λ b. refl; entries = S .rule1 .entries };
-  listed = λ x l f m. let k = S .rule6 x l f in place-occurs x (listOf (bucketAt (s .words) (setupAt s) x) (listsOf s)) (k .0) (k .1) (k .2);
-}
 
 -- FORGETTING slot i, which alone changes: it is still to be pushed.
 pub forget-stocks : {w w′ : List ℕ} {n : ℕ} {s : Setup} {was l : Lists} (i : ℕ) → Stocked w n s was l []

@@ -22,13 +22,13 @@ use Rattle.changes.specs.TidyGrows.{stretch-merged}
 use Rattle.lent.specs.Lent.{LentOf}
 use Rattle.granted.specs.NewSlots.{start-taking}
 use Rattle.granted.specs.SoundFacts.{setupAt, lent-few, lent-slots, lent-room}
-use Rattle.granted.specs.Stocked.{Stocked, push-stocks}
+use Rattle.granted.specs.Stocked.{Stocked, listed-stocked, push-stocks}
 use Rattle.granted.specs.Carved.{piece}
 use Rattle.granted.specs.Writes.{seen-same, seen-other}
 use Rattle.grows.specs.Grows.{stretched, moved}
 use Rattle.grown.specs.Fills.{Fills, Carries, Lone, Roots}
 use Rattle.grown.specs.Changed.{not-alloc, Change, change-fills, change-carries}
-use Rattle.grown.specs.Restock.{fills-stocked, forget-stocks}
+use Rattle.grown.specs.Restock.{forget-stocks}
 
 -- The rectangle of a Free slot stored.
 pub rect-writes : (w : List ℕ) (i : AllocIndex) (q : Rectangle) → HasSlot w i → seen w (i .0) .kind ≡ Free → Stretch (seen w) (seen (stored w i (toRect q))) (i .0) q
@@ -71,7 +71,7 @@ module _ (s : State) (all : Rectangle) (L : LentOf s) (S : Fills s all) (i : All
       let len = length-stored (s .words) i (toRect r) in
       let f = S .rule1 .fits in
       push-stocks w′ (s .head .count) (setupAt s) (listsOf s) (rw len (omega (arith, lent-slots s L))) (rw len (lent-few s L)) (λ b. rw len (lent-room s L b))
-      (piece (i .0) r) (forget-stocks (i .0) (fills-stocked S) (stretch-writes .other)) (lv .0) (ap (λ (z : Seen). z .rect) (stretch-writes .chosen))
+      (piece (i .0) r) (forget-stocks (i .0) (listed-stocked (S .rule1) (S .rule6)) (stretch-writes .other)) (lv .0) (ap (λ (z : Seen). z .rect) (stretch-writes .chosen))
 
   -- A STRETCH that takes the top chain to a new place keeps every rule.
   pub stretch-steps : {now : Rectangle} → Grown (seen w′) (s .head .count) (s .head .root .0) now → Fills (stretched s i r) now × Carries s (stretched s i r) 0
