@@ -34,7 +34,7 @@ module _ {get get′ : ℕ → Seen} {i : ℕ} {q : Rectangle} where
   }
 
   pub along-left-step : {g1 g2 : ℕ → Seen} {s a l : ℕ} {t u : Rectangle} → Beside get g1 i s t → Rekind g1 g2 i Container
-      → Pair g2 get′ i (flip (get i .orientation)) a Alloc q l u → (In i (l ∷ a ∷ s ∷ []) → ⊥) → Distinct (l ∷ a ∷ s ∷ [])
+      → Pair g2 get′ (to i) (flip (get i .orientation)) a Alloc q l u → (In i (l ∷ a ∷ s ∷ []) → ⊥) → Distinct (l ∷ a ∷ s ∷ [])
       → ((j : ℕ) → get i .next ≡ to j → In j (i ∷ l ∷ a ∷ s ∷ []) → ⊥) → InThree (get i .orientation) (get i .rect) q u t → AlongLeft get get′ i s a l q u t
   along-left-step {s = s} {a} {l} B R P N D next cut = record {
     chosen = P .other i (none-of i (a ∷ l ∷ []) (λ e. N (inr (inl e)), (λ e. N (inl e), tt))) ∙ (rw (B .chosen) at (R .chosen));
@@ -65,7 +65,7 @@ module _ {get get′ : ℕ → Seen} {i : ℕ} {q : Rectangle} where
       two-on : (j : ℕ) → In j (i ∷ s ∷ []) → In j (i ∷ s ∷ a ∷ l ∷ [])
       two-on = all-of (λ y. In y (i ∷ s ∷ a ∷ l ∷ [])) (i ∷ s ∷ []) (inl refl, (inr (inl refl), tt))
 
-  pub across-step : {g1 : ℕ → Seen} {s a : ℕ} {t : Rectangle} → Rekind get g1 i Container → Pair g1 get′ i (flip (get i .orientation)) a Alloc q s t
+  pub across-step : {g1 : ℕ → Seen} {s a : ℕ} {t : Rectangle} → Rekind get g1 i Container → Pair g1 get′ (to i) (flip (get i .orientation)) a Alloc q s t
       → (In i (a ∷ s ∷ []) → ⊥) → Parts (flip (get i .orientation)) (get i .rect) q t → Across get get′ i s a q t
   across-step {s = s} {a} R P N cut = record {
     chosen = P .other i N ∙ R .chosen;
@@ -76,7 +76,7 @@ module _ {get get′ : ℕ → Seen} {i : ℕ} {q : Rectangle} where
   }
 
   pub across-left-step : {g1 g2 : ℕ → Seen} {s c a l : ℕ} {z t u : Rectangle} → Rekind get g1 i Container
-      → Pair g1 g2 i (flip (get i .orientation)) c Container z s t → Pair g2 get′ c (get i .orientation) a Alloc q l u
+      → Pair g1 g2 (to i) (flip (get i .orientation)) c Container z s t → Pair g2 get′ (to c) (get i .orientation) a Alloc q l u
       → (In i (l ∷ a ∷ c ∷ s ∷ []) → ⊥) → Distinct (l ∷ a ∷ c ∷ s ∷ [])
       → InThree (flip (get i .orientation)) (get i .rect) q u t → AcrossLeft get get′ i s c a l z q u t
   across-left-step {s = s} {c} {a} {l} R P1 P2 N D cut = record {

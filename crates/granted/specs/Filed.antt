@@ -18,7 +18,7 @@ use Rattle.search.specs.FindLaws.{search-keeps-searchable, search-within, searc
 use Rattle.choices.specs.Choices.{Searched, Searchable}
 use Rattle.search.specs.Search.{findSuitable}
 use Rattle.steps.specs.State.{State, listsOf}
-use Rattle.sound.specs.Sound.{Sound}
+use Rattle.sound.specs.Sound.{Counted}
 
 -- Lists within their tables, which are as long as those of `was`; every entry is below n.
 pub record Filed (n : ℕ) (was l : Lists) : Type 0 where
@@ -26,9 +26,9 @@ pub record Filed (n : ℕ) (was l : Lists) : Type 0 where
   pub tables : (b : Bucket) → length (listOf b l .table) ≡ length (listOf b was .table)
   pub entries : (b : Bucket) → Each (λ x. x < n) (listOf b l)
 
--- Such are the lists of sound tables.
-pub sound-filed : {s : State} → Sound s → Filed (s .head .count) (listsOf s) (listsOf s)
-sound-filed S = record { within = S .rule1 .within; tables = λ b. refl; entries = S .rule1 .entries }
+-- Such are the lists of tables that keep rule 1.
+pub counted-filed : {s : State} → Counted s → Filed (s .head .count) (listsOf s) (listsOf s)
+counted-filed C = record { within = C .within; tables = λ b. refl; entries = C .entries }
 
 -- They stay so where n grows,
 pub filed-more : {n m : ℕ} {was l : Lists} → n ≤ m → Filed n was l → Filed m was l

@@ -28,7 +28,7 @@ use Rattle.choices.specs.Choices.{Searched, Searchable}
 use Rattle.search.specs.Search.{findSuitable}
 use Rattle.steps.specs.State.{State, listsOf}
 use Rattle.sound.specs.View.{seen}
-use Rattle.sound.specs.Sound.{Sound, HasEntry}
+use Rattle.sound.specs.Sound.{Counted, Listed, Sound, HasEntry}
 use Rattle.forest.specs.Pigeon.{In, In-dec}
 use Rattle.changes.specs.Swaps.{Taken}
 use Rattle.grants.specs.Carves.{News}
@@ -38,7 +38,7 @@ use Rattle.grants.specs.declared.Shape.{Shape}
 use Rattle.grants.specs.declared.Shape.the-variants.{Exact, Along, AlongLeft, Across, AcrossLeft}
 use Rattle.cuts.specs.declared.Cut.{Cut}
 use Rattle.granted.specs.Members.{AllOf}
-use Rattle.granted.specs.Filed.{Filed, sound-filed, filed-more, search-filed, removed-filed, filed-pushable, pushed-filed}
+use Rattle.granted.specs.Filed.{Filed, counted-filed, filed-more, search-filed, removed-filed, filed-pushable, pushed-filed}
 use Rattle.granted.specs.Carved.{Piece, slotsOf, Hold, Became, request, box, free, Carving}
 use Rattle.granted.specs.TableCut.{piecesOf}
 
@@ -56,12 +56,15 @@ free-entry : (w : List ℕ) (x : ℕ) → seen w x .kind ≡ Free → freeEntry 
 unfolding seen
 free-entry w x e = rw e
 
--- So are the lists of sound tables,
-pub sound-stocked : {s : State} → Sound s → Stocked (s .words) (s .head .count) (setupOf (s .head .sheet) (s .head .options)) (listsOf s) (listsOf s) []
-sound-stocked {s} S = record {
-  filed = sound-filed S;
-  listed = λ x l f m. let k = S .rule6 x l f in place-occurs x (listOf (bucketAt (s .words) (setupOf (s .head .sheet) (s .head .options)) x) (listsOf s)) (k .0) (k .1) (k .2);
+-- So are the lists of tables that keep rules 1 and 6, as sound ones do,
+pub listed-stocked : {s : State} → Counted s → Listed s → Stocked (s .words) (s .head .count) (setupOf (s .head .sheet) (s .head .options)) (listsOf s) (listsOf s) []
+listed-stocked {s} C E = record {
+  filed = counted-filed C;
+  listed = λ x l f m. let k = E x l f in place-occurs x (listOf (bucketAt (s .words) (setupOf (s .head .sheet) (s .head .options)) x) (listsOf s)) (k .0) (k .1) (k .2);
 }
+
+pub sound-stocked : {s : State} → Sound s → Stocked (s .words) (s .head .count) (setupOf (s .head .sheet) (s .head .options)) (listsOf s) (listsOf s) []
+sound-stocked S = listed-stocked (S .rule1) (S .rule6)
 
 -- and lists with nothing still to be pushed have an entry of each Free slot.
 pub stocked-entry : {w : List ℕ} {n : ℕ} {s : Setup} {was l : Lists} → Stocked w n s was l []

@@ -25,7 +25,7 @@ use Rattle.grants.specs.declared.Shape.{Shape}
 use Rattle.grants.specs.declared.Shape.the-variants.{Exact, Along, AlongLeft, Across, AcrossLeft}
 use Rattle.granted.specs.NewSlots.{Taking, new-has-slot}
 use Rattle.granted.specs.News.{newOnes}
-use Rattle.granted.specs.Writes.{NextApart, length-turned, length-beside, length-pair, kind-writes, turn-writes, beside-writes, pair-writes}
+use Rattle.granted.specs.Writes.{NextApart, slot-link, length-turned, length-beside, length-pair, kind-writes, turn-writes, beside-writes, pair-writes}
 use Rattle.granted.specs.CutShapes.{CutsAs}
 use Rattle.granted.specs.CutSteps.{turned-rekind, along-step, along-left-step, across-step, across-left-step}
 use Rattle.granted.specs.Carved.{Piece, piece, Carving, next-apart, exact-carving, along-carving, along-left-carving, across-carving, across-left-carving}
@@ -91,7 +91,7 @@ module _ (w g : List ℕ) (h : Head) {root : ℕ} {all : Rectangle} (slots : len
       let B = beside-writes w few i (n .split) (c .split) has-chosen hs (λ x. N (inr (inr (inl (sym x))))) (next-fine (newOnes AlongLeft n) _ _ T (n .split .0) (inr (inr (inl refl)))) in
       let R = kind-writes u i Container (rw lu has-chosen) in
       let U = pair-writes v (rw lv′ few) i (flip (nodeAt w i .orientation)) (n .alloc) Alloc q (n .left) (c .leftover)
-      (rw lv′ has-chosen) (rw lv′ ha) (rw lv′ hl) (λ x. T .distinct .0 (inl (sym x))) in
+      (slot-link w few i has-chosen) (rw lv′ ha) (rw lv′ hl) (λ x. T .distinct .0 (inl (sym x))) in
       along-left-carving L M P lv free (T .taken) some (cut .left) (cut .split)
       (along-left-step B R U N (T .distinct) (next-apart L lv (newOnes AlongLeft n) (T .taken)) cut)
   table-carved Across n e T c cut =
@@ -102,7 +102,7 @@ module _ (w g : List ℕ) (h : Head) {root : ℕ} {all : Rectangle} (slots : len
       let N : In (i .0) (newOnes Across n) → ⊥ = λ m. T .taken .idle (i .0) m lv in
       let R = kind-writes w i Container has-chosen in
       let U = pair-writes u (rw lu few) i (flip (nodeAt w i .orientation)) (n .alloc) Alloc q (n .split) (c .split)
-      (rw lu has-chosen) (rw lu ha) (rw lu hs) (λ x. T .distinct .0 (inl x)) in
+      (slot-link w few i has-chosen) (rw lu ha) (rw lu hs) (λ x. T .distinct .0 (inl x)) in
       across-carving L M P lv free (T .taken) some (cut .split) (across-step R U N (cut .parts))
   table-carved AcrossLeft n e T c cut =
       let o = nodeAt w i .orientation in
@@ -117,7 +117,7 @@ module _ (w g : List ℕ) (h : Head) {root : ℕ} {all : Rectangle} (slots : len
       let N : In (i .0) (newOnes AcrossLeft n) → ⊥ = λ m. T .taken .idle (i .0) m lv in
       let R = kind-writes w i Container has-chosen in
       let U1 = pair-writes u (rw lu few) i (flip o) (n .inner) Container noRect (n .split) (c .split)
-      (rw lu has-chosen) (rw lu hc) (rw lu hs) (λ x. T .distinct .1 .1 .0 (inl x)) in
+      (slot-link w few i has-chosen) (rw lu hc) (rw lu hs) (λ x. T .distinct .1 .1 .0 (inl x)) in
       let U2 = pair-writes v (rw lv′ few) (n .inner) o (n .alloc) Alloc q (n .left) (c .leftover)
-      (rw lv′ hc) (rw lv′ ha) (rw lv′ hl) (λ x. T .distinct .0 (inl (sym x))) in
+      (slot-link w few (n .inner) hc) (rw lv′ ha) (rw lv′ hl) (λ x. T .distinct .0 (inl (sym x))) in
       across-left-carving L M P lv free (T .taken) some (cut .left) (cut .split) (across-left-step R U1 U2 N (T .distinct) cut)

@@ -17,7 +17,7 @@ use Rattle.table.specs.TableLaws.{length-stored, has-stored, nodeAt-stored-same
 use Rattle.slots.specs.declared.AllocIndex.{AllocIndex}
 use Rattle.slots.specs.declared.NodeKind.{NodeKind}
 use Rattle.slots.specs.declared.NodeKind.the-variants.{Alloc, Free}
-use Rattle.sound.specs.View.{none, to, linkOf, Seen, seen, seenAs}
+use Rattle.sound.specs.View.{Link, none, to, linkOf, Seen, seen, seenAs}
 use Rattle.forest.specs.Pigeon.{In}
 use Rattle.forest.specs.Back.{to-inj, no-link}
 use Rattle.links.specs.LinkLaws.{link-none, link-some, link-of-slot}
@@ -37,10 +37,10 @@ pub record Beside (get get′ : ℕ → Seen) (i s : ℕ) (t : Rectangle) : Type
   pub split : get′ s ≡ cell (get i .parent) (get i .next) (to i) Free (get i .orientation) t
   pub rest : Elsewhere get get′ (i ∷ s ∷ []) (get i .next) (to s)
 
--- Two new slots under p, a and then b, which is Free.
-pub record Pair (get get′ : ℕ → Seen) (p : ℕ) (o : Orientation) (a : ℕ) (k : NodeKind) (r : Rectangle) (b : ℕ) (t : Rectangle) : Type 0 where
-  pub first : get′ a ≡ cell (to p) (to b) none k o r
-  pub last : get′ b ≡ cell (to p) none (to a) Free o t
+-- Two new slots with the parent p, a and then b, which is Free.
+pub record Pair (get get′ : ℕ → Seen) (p : Link) (o : Orientation) (a : ℕ) (k : NodeKind) (r : Rectangle) (b : ℕ) (t : Rectangle) : Type 0 where
+  pub first : get′ a ≡ cell p (to b) none k o r
+  pub last : get′ b ≡ cell p none (to a) Free o t
   pub other : (j : ℕ) → (In j (a ∷ b ∷ []) → ⊥) → get′ j ≡ get j
 
 -- Each keeps the table's length.
@@ -87,15 +87,15 @@ turn-writes w i q h =
     }
 
 pub pair-writes : (w : List ℕ) → length w ≤ 32768 → (p : AllocIndex) (o : Orientation) (a : AllocIndex) (k : NodeKind) (r : Rectangle) (b : AllocIndex) (t : Rectangle)
-    → HasSlot w p → HasSlot w a → HasSlot w b → (a .0 ≡ b .0 → ⊥) → Pair (seen w) (seen (pairUnder w p o a k r b t)) (p .0) o (a .0) k r (b .0) t
+    → {l : Link} → linkOf p ≡ l → HasSlot w a → HasSlot w b → (a .0 ≡ b .0 → ⊥) → Pair (seen w) (seen (pairUnder w p o a k r b t)) l o (a .0) k r (b .0) t
 unfolding seen pairUnder linkOf
-pair-writes w few p o a k r b t hp ha hb n =
+pair-writes w few p o a k r b t e ha hb n =
     let u = stored w a (toNode (firstNode p b k o r)) in
     let first = toNode (firstNode p b k o r) in
     let last = toNode (lastNode p a o t) in
     record {
-      first = seen-other u b last (a .0) n ∙ (seen-same w a first ha ∙ rw (slot-link w few p hp, slot-link w few b hb));
-      last = seen-same u b last (has-stored w a b first hb) ∙ rw (slot-link w few p hp, slot-link w few a ha);
+      first = seen-other u b last (a .0) n ∙ (seen-same w a first ha ∙ rw (e, slot-link w few b hb));
+      last = seen-same u b last (has-stored w a b first hb) ∙ rw (e, slot-link w few a ha);
       other = λ j m. seen-other u b last j (λ e. m (inr (inl e))) ∙ seen-other w a first j (λ e. m (inl e));
     }
 
