@@ -141,7 +141,7 @@ fn turn(words: &mut [u32], i: AllocIndex, rect: Rectangle)
 }
 
 // A link to j, unless it is none, is answered by j's prev.
-fn answer_link(words: &mut [u32], j: AllocIndex, s: AllocIndex)
+pub fn answer_link(words: &mut [u32], j: AllocIndex, s: AllocIndex)
     requires { ⌜ LinkHas (now words) j ⌝ }
     ensures { λ _. ⌜ now (words .exit) ≡ answeredBy (now (words .entry)) j s ⌝ }
 {

@@ -44,7 +44,7 @@ not-free-link w j e k l f =
     false≢true (sym e ∙ z)
 
 -- An only child.
-only-child : (w : List ℕ) (i : AllocIndex) → isOnlyChild w i ≡ true
+pub only-child : (w : List ℕ) (i : AllocIndex) → isOnlyChild w i ≡ true
     → (seen w (i .0) .prev ≡ none) × (seen w (i .0) .next ≡ none) × (seen w (i .0) .parent ≡ to (nodeAt w i .parent .0))
 unfolding isOnlyChild seen
 only-child w i e =

@@ -115,7 +115,7 @@ module _ (s : State) (L : LentOf s) (S : Sound s) (i : AllocIndex) (below : i .0
   }
 
   -- and it ends.
-  ended : Ended was (length (s .words)) n root (i .0) (sheetOf (s .head .sheet)) T (climbOf s i)
+  pub ended : Ended was (length (s .words)) n root (i .0) (sheetOf (s .head .sheet)) T (climbOf s i)
   unfolding climbOf
   ended =
       climb-ends was (length (s .words)) n root (i .0) (sheetOf (s .head .sheet)) T (omega (arith, lent-slots s L, S .rule1 .fits)) (lent-few s L) n

@@ -1,0 +1,2 @@
+pub mod Climbable
+pub mod ClimbLaws
