@@ -3,7 +3,6 @@ use buckets::Lengths;
 use geometry::AllocatorOptions;
 use geometry::Size;
 use slots::AllocIndex;
-use starts::Begun;
 use steps::Head;
 ghost use Prim.Native.Nat.{_≤_};
 ghost use lib.ListN.{length};
@@ -38,6 +37,13 @@ fn same_bytes(a: &[u8], b: &[u8], n: usize) -> bool
     true
 }
 
+fn same_list(told: &[u32; 2048], ours: &[u32; 2048], n: usize) -> bool {
+    if n > 2048 {
+        return false;
+    }
+    same_first(told, ours, n)
+}
+
 fn same_words(told: &[u32; 2048], ours: &[u32; 2048], n: usize) -> bool {
     if n > 256 {
         return false;
@@ -52,52 +58,32 @@ fn same_generations(told: &[u8; 256], ours: &[u8; 256], n: usize) -> bool {
     same_bytes(told, ours, n)
 }
 
-fn same_list(told: &[u32], ours: &[u32], n: usize) -> bool {
-    if n > told.len() {
+fn same_lists(told: &[[u32; 2048]; 4], ours: &[[u32; 2048]; 4], lengths: Lengths) -> bool {
+    if !same_list(&told[1], &ours[1], lengths.small) {
         return false;
     }
-    if n > ours.len() {
+    if !same_list(&told[2], &ours[2], lengths.medium) {
         return false;
     }
-    same_first(told, ours, n)
-}
-
-fn same_lists(
-    told: &[[u32; 1024]; 3],
-    small: &[u32; 1024],
-    medium: &[u32; 1024],
-    large: &[u32; 1024],
-    lengths: Lengths,
-) -> bool {
-    if !same_list(&told[0], small, lengths.small) {
-        return false;
-    }
-    if !same_list(&told[1], medium, lengths.medium) {
-        return false;
-    }
-    same_list(&told[2], large, lengths.large)
+    same_list(&told[3], &ours[3], lengths.large)
 }
 
 pub fn same_tables(
-    told_words: &[u32; 2048],
+    told_tables: &[[u32; 2048]; 4],
     told_generations: &[u8; 256],
-    told_lists: &[[u32; 1024]; 3],
-    words: &[u32; 2048],
+    tables: &[[u32; 2048]; 4],
     generations: &[u8; 256],
-    small: &[u32; 1024],
-    medium: &[u32; 1024],
-    large: &[u32; 1024],
     told: Head,
 ) -> bool {
     let n = told.count as usize;
     let lengths = told.lengths;
-    if !same_words(told_words, words, n) {
+    if !same_words(&told_tables[0], &tables[0], n) {
         return false;
     }
     if !same_generations(told_generations, generations, n) {
         return false;
     }
-    same_lists(told_lists, small, medium, large, lengths)
+    same_lists(told_tables, tables, lengths)
 }
 
 fn same_size(a: Size, b: Size) -> bool {
@@ -159,19 +145,14 @@ fn same_setup(a: Head, b: Head) -> bool {
     same_options(a_options, b_options)
 }
 
-// Whether our call answered 0 and left the head that the list tells of.
-pub fn same_head(told: Head, ours: Begun) -> bool {
-    let head = ours.head;
-    let lengths = head.lengths;
+pub fn same_head(told: Head, ours: Head) -> bool {
+    let lengths = ours.lengths;
     let told_lengths = told.lengths;
-    if ours.answer != 0 {
-        return false;
-    }
-    if !same_setup(told, head) {
+    if !same_setup(told, ours) {
         return false;
     }
     if !same_lengths(told_lengths, lengths) {
         return false;
     }
-    same_numbers(told, head)
+    same_numbers(told, ours)
 }

@@ -1,57 +1,33 @@
-// The calls that are replayed, on tables of our own. A start finds them as the call before left them; clear and reset begin
+// The calls that are replayed, on tables of our own. A start finds them as the call before left them; every other call begins
 // with the state that the list told of.
+use crate::told;
+use geometry::Rectangle;
+use geometry::Size;
+use granting::Allocation;
 use starts::Begun;
 use steps::Head;
+
+// What a call of ours gave: whether its answers are those on the line, and the head after it.
+pub struct Given {
+    pub agrees: bool,
+    pub head: Head,
+}
 
 // Whether a call of this kind is replayed.
 pub fn is_replayed(kind: u32) -> bool {
     match kind {
-        1 | 5 | 6 => true,
+        1 | 2 | 5 | 6 => true,
         _ => false,
     }
 }
 
-// Our tables become what the list told.
-fn copy_told(
-    told_words: &[u32; 2048],
-    told_generations: &[u8; 256],
-    told_lists: &[[u32; 1024]; 3],
-    words: &mut [u32; 2048],
-    generations: &mut [u8; 256],
-    small: &mut [u32; 1024],
-    medium: &mut [u32; 1024],
-    large: &mut [u32; 1024],
-) {
-    *words = *told_words;
-    *generations = *told_generations;
-    *small = told_lists[0];
-    *medium = told_lists[1];
-    *large = told_lists[2];
-}
-
-// 5, and 6 w h aw ah small large
-fn again(
-    line: &[u32; 128],
-    words: &mut [u32; 2048],
-    generations: &mut [u8; 256],
-    small: &mut [u32; 1024],
-    medium: &mut [u32; 1024],
-    large: &mut [u32; 1024],
-    head: Head,
-) -> Begun {
-    if line[0] == 5 {
-        return starts::clear(words, generations, small, medium, large, head);
+// A call that the list tells of as done.
+fn done(ours: Begun) -> Given {
+    let head = ours.head;
+    Given {
+        agrees: ours.answer == 0,
+        head: head,
     }
-    starts::reset(
-        words,
-        generations,
-        small,
-        medium,
-        large,
-        head,
-        crate::told::sheet_on(line),
-        crate::told::options_on(line),
-    )
 }
 
 // 1 w h aw ah small large
@@ -59,50 +35,166 @@ fn start(
     line: &[u32; 128],
     words: &mut [u32; 2048],
     generations: &mut [u8; 256],
-    small: &mut [u32; 1024],
-    medium: &mut [u32; 1024],
-    large: &mut [u32; 1024],
+    small: &mut [u32; 2048],
+    medium: &mut [u32; 2048],
+    large: &mut [u32; 2048],
     head: Head,
-) -> Begun {
-    starts::start(
+) -> Given {
+    let sheet = told::size_on(line);
+    let options = told::options_on(line);
+    done(starts::start(
         words,
         generations,
         small,
         medium,
         large,
         head,
-        crate::told::sheet_on(line),
-        crate::told::options_on(line),
-    )
+        sheet,
+        options,
+    ))
 }
 
-// What the call of a line of kind 1, 5 or 6 gives: told is the head that the list told of before it, and ours the one that
-// our last call left.
-pub fn made(
-    line: &[u32; 128],
-    told_words: &[u32; 2048],
-    told_generations: &[u8; 256],
-    told_lists: &[[u32; 1024]; 3],
+// 5
+fn clear(
     words: &mut [u32; 2048],
     generations: &mut [u8; 256],
-    small: &mut [u32; 1024],
-    medium: &mut [u32; 1024],
-    large: &mut [u32; 1024],
-    told: Head,
-    ours: Head,
-) -> Begun {
-    if line[0] == 1 {
-        return start(line, words, generations, small, medium, large, ours);
-    }
-    copy_told(
-        told_words,
-        told_generations,
-        told_lists,
+    small: &mut [u32; 2048],
+    medium: &mut [u32; 2048],
+    large: &mut [u32; 2048],
+    head: Head,
+) -> Given {
+    done(starts::clear(words, generations, small, medium, large, head))
+}
+
+// 6 w h aw ah small large
+fn reset(
+    line: &[u32; 128],
+    words: &mut [u32; 2048],
+    generations: &mut [u8; 256],
+    small: &mut [u32; 2048],
+    medium: &mut [u32; 2048],
+    large: &mut [u32; 2048],
+    head: Head,
+) -> Given {
+    let sheet = told::size_on(line);
+    let options = told::options_on(line);
+    done(starts::reset(
         words,
         generations,
         small,
         medium,
         large,
+        head,
+        sheet,
+        options,
+    ))
+}
+
+// Whether the rectangle is the one on a line of kind 2.
+fn is_rectangle(line: &[u32; 128], ours: Rectangle) -> bool {
+    if ours.x0 != line[5] {
+        return false;
+    }
+    if ours.y0 != line[6] {
+        return false;
+    }
+    if ours.x1 != line[7] {
+        return false;
+    }
+    ours.y1 == line[8]
+}
+
+// Whether answer, ticket and rectangle are those on a line of kind 2.
+fn is_allocation(line: &[u32; 128], ours: Allocation) -> bool {
+    let id = ours.id;
+    let rectangle = ours.rectangle;
+    if ours.answer != line[3] {
+        return false;
+    }
+    if id.0 != line[4] {
+        return false;
+    }
+    is_rectangle(line, rectangle)
+}
+
+// 2 w h answer ticket x0 y0 x1 y1
+fn allocate(
+    line: &[u32; 128],
+    words: &mut [u32; 2048],
+    generations: &mut [u8; 256],
+    small: &mut [u32; 2048],
+    medium: &mut [u32; 2048],
+    large: &mut [u32; 2048],
+    head: Head,
+) -> Given {
+    let size = told::size_on(line);
+    let ours = allocate::allocate(words, generations, small, medium, large, head, size);
+    let after = ours.head;
+    Given {
+        agrees: is_allocation(line, ours),
+        head: after,
+    }
+}
+
+// The call of a line of kind 1, 2, 5 or 6.
+fn call(
+    line: &[u32; 128],
+    words: &mut [u32; 2048],
+    generations: &mut [u8; 256],
+    small: &mut [u32; 2048],
+    medium: &mut [u32; 2048],
+    large: &mut [u32; 2048],
+    head: Head,
+) -> Given {
+    match line[0] {
+        1 => start(line, words, generations, small, medium, large, head),
+        2 => allocate(line, words, generations, small, medium, large, head),
+        5 => clear(words, generations, small, medium, large, head),
+        _ => reset(line, words, generations, small, medium, large, head),
+    }
+}
+
+// The call of a line, on our tables as they stand.
+fn made_on(
+    line: &[u32; 128],
+    tables: &mut [[u32; 2048]; 4],
+    generations: &mut [u8; 256],
+    head: Head,
+) -> Given {
+    let mut words = tables[0];
+    let mut small = tables[1];
+    let mut medium = tables[2];
+    let mut large = tables[3];
+    let made = call(
+        line,
+        &mut words,
+        generations,
+        &mut small,
+        &mut medium,
+        &mut large,
+        head,
     );
-    again(line, words, generations, small, medium, large, told)
+    tables[0] = words;
+    tables[1] = small;
+    tables[2] = medium;
+    tables[3] = large;
+    made
+}
+
+// What the call of a line gives: before is the head that the list told of before it, and last the one that our last call left.
+pub fn made(
+    line: &[u32; 128],
+    told_tables: &[[u32; 2048]; 4],
+    told_generations: &[u8; 256],
+    tables: &mut [[u32; 2048]; 4],
+    generations: &mut [u8; 256],
+    before: Head,
+    last: Head,
+) -> Given {
+    if line[0] == 1 {
+        return made_on(line, tables, generations, last);
+    }
+    *tables = *told_tables;
+    *generations = *told_generations;
+    made_on(line, tables, generations, before)
 }

@@ -7,9 +7,9 @@ use views::Emptiness;
 fn looked(
     words: &[u32; 2048],
     generations: &[u8; 256],
-    small: &[u32; 1024],
-    medium: &[u32; 1024],
-    large: &[u32; 1024],
+    small: &[u32; 2048],
+    medium: &[u32; 2048],
+    large: &[u32; 2048],
     head: Head,
     ticket: u32,
 ) -> Looked {
@@ -26,25 +26,25 @@ fn looked(
 
 // Whether the tables are sound and the ticket is live.
 pub fn is_live(
-    words: &[u32; 2048],
+    tables: &[[u32; 2048]; 4],
     generations: &[u8; 256],
-    lists: &[[u32; 1024]; 3],
     head: Head,
     ticket: u32,
 ) -> bool {
-    let small = lists[0];
-    let medium = lists[1];
-    let large = lists[2];
-    let ours = looked(words, generations, &small, &medium, &large, head, ticket);
+    let words = tables[0];
+    let small = tables[1];
+    let medium = tables[2];
+    let large = tables[3];
+    let ours = looked(&words, generations, &small, &medium, &large, head, ticket);
     ours.answer == 0
 }
 
 fn emptiness(
     words: &[u32; 2048],
     generations: &[u8; 256],
-    small: &[u32; 1024],
-    medium: &[u32; 1024],
-    large: &[u32; 1024],
+    small: &[u32; 2048],
+    medium: &[u32; 2048],
+    large: &[u32; 2048],
     head: Head,
 ) -> Emptiness {
     views::is_empty(words, generations, small, medium, large, head)
@@ -53,15 +53,15 @@ fn emptiness(
 // 9 empty: whether the tables are sound, and the sheet is empty just where the line says so.
 pub fn is_empty_as_told(
     line: &[u32; 128],
-    words: &[u32; 2048],
+    tables: &[[u32; 2048]; 4],
     generations: &[u8; 256],
-    lists: &[[u32; 1024]; 3],
     head: Head,
 ) -> bool {
-    let small = lists[0];
-    let medium = lists[1];
-    let large = lists[2];
-    let ours = emptiness(words, generations, &small, &medium, &large, head);
+    let words = tables[0];
+    let small = tables[1];
+    let medium = tables[2];
+    let large = tables[3];
+    let ours = emptiness(&words, generations, &small, &medium, &large, head);
     if ours.answer != 0 {
         return false;
     }

@@ -84,14 +84,10 @@ struct Run {
 fn take_line(
     line: &[u32; 128],
     read: Line,
-    told_words: &mut [u32; 2048],
+    told_tables: &mut [[u32; 2048]; 4],
     told_generations: &mut [u8; 256],
-    told_lists: &mut [[u32; 1024]; 3],
-    words: &mut [u32; 2048],
+    tables: &mut [[u32; 2048]; 4],
     generations: &mut [u8; 256],
-    small: &mut [u32; 1024],
-    medium: &mut [u32; 1024],
-    large: &mut [u32; 1024],
     counts: &mut [u64; 32],
     run: Run,
 ) -> Run {
@@ -110,14 +106,10 @@ fn take_line(
     }
     let step = take::take(
         line,
-        told_words,
+        told_tables,
         told_generations,
-        told_lists,
-        words,
+        tables,
         generations,
-        small,
-        medium,
-        large,
         kept,
         tally.lines,
     );
@@ -138,14 +130,10 @@ struct Pass {
 fn take_next(
     line: &mut [u32; 128],
     buffer: &mut [u8; 65536],
-    told_words: &mut [u32; 2048],
+    told_tables: &mut [[u32; 2048]; 4],
     told_generations: &mut [u8; 256],
-    told_lists: &mut [[u32; 1024]; 3],
-    words: &mut [u32; 2048],
+    tables: &mut [[u32; 2048]; 4],
     generations: &mut [u8; 256],
-    small: &mut [u32; 1024],
-    medium: &mut [u32; 1024],
-    large: &mut [u32; 1024],
     counts: &mut [u64; 32],
     pass: Pass,
 ) -> Pass
@@ -160,14 +148,10 @@ fn take_next(
         run: take_line(
             line,
             read,
-            told_words,
+            told_tables,
             told_generations,
-            told_lists,
-            words,
+            tables,
             generations,
-            small,
-            medium,
-            large,
             counts,
             run,
         ),
@@ -180,15 +164,12 @@ fn take_next(
 fn read_all(counts: &mut [u64; 32]) -> Tally {
     let mut line = [0u32; 128];
     let mut buffer = io::large_buffer();
-    let mut told_words = [0u32; 2048];
+    let zeros = [0u32; 2048];
+    let mut told_tables = [zeros; 4];
     let mut told_generations = [0u8; 256];
-    let list = [0u32; 1024];
-    let mut told_lists = [list; 3];
-    let mut words = [7u32; 2048];
+    let sevens = [7u32; 2048];
+    let mut tables = [sevens; 4];
     let mut generations = [7u8; 256];
-    let mut small = [7u32; 1024];
-    let mut medium = [7u32; 1024];
-    let mut large = [7u32; 1024];
     let mut pass = Pass {
         run: Run {
             kept: take::nothing_yet(&line),
@@ -201,14 +182,10 @@ fn read_all(counts: &mut [u64; 32]) -> Tally {
         pass = take_next(
             &mut line,
             &mut buffer,
-            &mut told_words,
+            &mut told_tables,
             &mut told_generations,
-            &mut told_lists,
-            &mut words,
+            &mut tables,
             &mut generations,
-            &mut small,
-            &mut medium,
-            &mut large,
             counts,
             pass,
         );

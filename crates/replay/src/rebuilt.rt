@@ -9,22 +9,10 @@ fn is_rebuilt(ticket: u32) -> bool {
     again.0 == ticket
 }
 
-fn ticket(number: u32) -> Verdict {
-    if is_rebuilt(number) {
+// 3 ticket
+pub fn deallocate(line: &[u32; 128]) -> Verdict {
+    if is_rebuilt(line[1]) {
         return Verdict::Ticket;
     }
     Verdict::Differs
-}
-
-// 2 w h answer ticket x0 y0 x1 y1
-pub fn allocate(line: &[u32; 128]) -> Verdict {
-    if line[3] == 0 {
-        return ticket(line[4]);
-    }
-    Verdict::Later
-}
-
-// 3 ticket
-pub fn deallocate(line: &[u32; 128]) -> Verdict {
-    ticket(line[1])
 }

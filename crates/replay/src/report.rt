@@ -50,6 +50,7 @@ fn report_agreed(counts: &[u64; 32], tickets: u64) {
 // The calls whose whole state agrees, and the lines that told of them.
 fn report_calls(counts: &[u64; 32], told: u64) {
     say(b"starts agree ", counts[1]);
+    say(b"allocates agree ", counts[2]);
     say(b"clears agree ", counts[5]);
     say(b"resets agree ", counts[6]);
     say(b"  lines that tell of these calls ", told);

@@ -2,6 +2,7 @@
 // line of kind 9, where our state is held against the one that was told.
 use crate::agree;
 use crate::calls;
+use crate::calls::Given;
 use crate::leaves;
 use crate::looks;
 use crate::rebuilt;
@@ -9,7 +10,6 @@ use crate::told;
 use crate::verdict;
 use crate::verdict::Verdict;
 use geometry::Size;
-use starts::Begun;
 use steps::Head;
 
 // The call that is open: its kind, 0 where none is, and its line.
@@ -22,7 +22,7 @@ pub struct Call {
 // that is open.
 pub struct Kept {
     pub told: Head,
-    pub ours: Begun,
+    pub ours: Given,
     pub call: Call,
 }
 
@@ -38,11 +38,11 @@ fn no_call() -> Call {
 
 // What is kept before the first line.
 pub fn nothing_yet(line: &[u32; 128]) -> Kept {
-    let head = told::untold(told::sheet_on(line), told::options_on(line));
+    let head = told::untold(told::size_on(line), told::options_on(line));
     Kept {
         told: head,
-        ours: Begun {
-            answer: 0,
+        ours: Given {
+            agrees: true,
             head: head,
         },
         call: no_call(),
@@ -62,22 +62,21 @@ fn with_sheet(head: Head, sheet: Size) -> Head {
     after
 }
 
-// The head that is told of after a line of kind 1, 5 or 6, as far as that line says it.
+// The head that is told of after a line of kind 1, 2, 5 or 6, as far as that line says it.
 fn told_after(
     line: &[u32; 128],
-    words: &mut [u32; 2048],
+    tables: &mut [[u32; 2048]; 4],
     generations: &mut [u8; 256],
-    lists: &mut [[u32; 1024]; 3],
     head: Head,
 ) -> Head {
     let mut after = head;
     match line[0] {
         1 => {
-            told::forget(words, generations, lists);
-            after = told::untold(told::sheet_on(line), told::options_on(line));
+            told::forget(tables, generations);
+            after = told::untold(told::size_on(line), told::options_on(line));
         }
         6 => {
-            after.sheet = told::sheet_on(line);
+            after.sheet = told::size_on(line);
             after.options = told::options_on(line);
         }
         _ => {}
@@ -85,17 +84,13 @@ fn told_after(
     after
 }
 
-// 1 w h aw ah small large, 5, and 6 w h aw ah small large
+// 1 w h aw ah small large, 2 w h answer ticket x0 y0 x1 y1, 5, and 6 w h aw ah small large
 fn open(
     line: &[u32; 128],
-    told_words: &mut [u32; 2048],
+    told_tables: &mut [[u32; 2048]; 4],
     told_generations: &mut [u8; 256],
-    told_lists: &mut [[u32; 1024]; 3],
-    words: &mut [u32; 2048],
+    tables: &mut [[u32; 2048]; 4],
     generations: &mut [u8; 256],
-    small: &mut [u32; 1024],
-    medium: &mut [u32; 1024],
-    large: &mut [u32; 1024],
     kept: Kept,
     at: u64,
 ) -> Step {
@@ -108,18 +103,14 @@ fn open(
     }
     let ours = calls::made(
         line,
-        told_words,
+        told_tables,
         told_generations,
-        told_lists,
-        words,
+        tables,
         generations,
-        small,
-        medium,
-        large,
         before,
         head,
     );
-    let after = told_after(line, told_words, told_generations, told_lists, before);
+    let after = told_after(line, told_tables, told_generations, before);
     Step {
         kept: Kept {
             told: after,
@@ -136,37 +127,32 @@ fn open(
 // What is found of the line of a call that is not replayed yet. The ticket of a deallocate is live before it.
 fn ticket(
     line: &[u32; 128],
-    words: &[u32; 2048],
+    tables: &[[u32; 2048]; 4],
     generations: &[u8; 256],
-    lists: &[[u32; 1024]; 3],
     head: Head,
 ) -> Verdict {
-    match line[0] {
-        2 => rebuilt::allocate(line),
-        3 => {
-            if looks::is_live(words, generations, lists, head, line[1]) {
-                return rebuilt::deallocate(line);
-            }
-            Verdict::Differs
-        }
-        _ => Verdict::Later,
+    if line[0] != 3 {
+        return Verdict::Later;
     }
+    if looks::is_live(tables, generations, head, line[1]) {
+        return rebuilt::deallocate(line);
+    }
+    Verdict::Differs
 }
 
-// The head after a line of kind 2, 3 or 4, as far as that line says it: grow changes the sheet.
+// The head after a line of kind 3 or 4, as far as that line says it: grow changes the sheet.
 fn grown(line: &[u32; 128], head: Head) -> Head {
     if line[0] == 4 {
-        return with_sheet(head, told::sheet_on(line));
+        return with_sheet(head, told::size_on(line));
     }
     head
 }
 
-// 2 w h answer ticket x0 y0 x1 y1, 3 ticket, and 4 w h
+// 3 ticket, and 4 w h
 fn open_later(
     line: &[u32; 128],
-    told_words: &[u32; 2048],
+    told_tables: &[[u32; 2048]; 4],
     told_generations: &[u8; 256],
-    told_lists: &[[u32; 1024]; 3],
     kept: Kept,
     at: u64,
 ) -> Step {
@@ -185,7 +171,7 @@ fn open_later(
                 at: at,
             },
         },
-        verdict: ticket(line, told_words, told_generations, told_lists, head),
+        verdict: ticket(line, told_tables, told_generations, head),
     }
 }
 
@@ -200,9 +186,8 @@ fn telling(kind: u32) -> Verdict {
 // 10 to 14
 fn change(
     line: &[u32; 128],
-    words: &mut [u32; 2048],
+    tables: &mut [[u32; 2048]; 4],
     generations: &mut [u8; 256],
-    lists: &mut [[u32; 1024]; 3],
     kept: Kept,
 ) -> Step {
     let call = kept.call;
@@ -210,7 +195,7 @@ fn change(
     if call.kind == 0 {
         return fault(kept);
     }
-    if !told::change(line, words, generations, lists) {
+    if !told::change(line, tables, generations) {
         return fault(kept);
     }
     let mut after = kept;
@@ -229,33 +214,23 @@ fn is_due(line: &[u32; 128], call: Call) -> bool {
     line[1] <= 1
 }
 
-// Whether our call answered 0 and left the state that the list tells of.
+// Whether our call gave the answers and left the state that the list tells of.
 fn is_same(
-    told_words: &[u32; 2048],
+    told_tables: &[[u32; 2048]; 4],
     told_generations: &[u8; 256],
-    told_lists: &[[u32; 1024]; 3],
-    words: &[u32; 2048],
+    tables: &[[u32; 2048]; 4],
     generations: &[u8; 256],
-    small: &[u32; 1024],
-    medium: &[u32; 1024],
-    large: &[u32; 1024],
     head: Head,
-    ours: Begun,
+    ours: Given,
 ) -> bool {
-    if !agree::same_head(head, ours) {
+    let left = ours.head;
+    if !ours.agrees {
         return false;
     }
-    agree::same_tables(
-        told_words,
-        told_generations,
-        told_lists,
-        words,
-        generations,
-        small,
-        medium,
-        large,
-        head,
-    )
+    if !agree::same_head(head, left) {
+        return false;
+    }
+    agree::same_tables(told_tables, told_generations, tables, generations, head)
 }
 
 // What is kept once the call is closed.
@@ -268,14 +243,10 @@ fn closed(kept: Kept) -> Kept {
 // 9 empty
 fn close(
     line: &[u32; 128],
-    told_words: &[u32; 2048],
+    told_tables: &[[u32; 2048]; 4],
     told_generations: &[u8; 256],
-    told_lists: &[[u32; 1024]; 3],
-    words: &[u32; 2048],
+    tables: &[[u32; 2048]; 4],
     generations: &[u8; 256],
-    small: &[u32; 1024],
-    medium: &[u32; 1024],
-    large: &[u32; 1024],
     kept: Kept,
 ) -> Verdict {
     let call = kept.call;
@@ -284,21 +255,17 @@ fn close(
     if !is_due(line, call) {
         return Verdict::Fault;
     }
-    if !looks::is_empty_as_told(line, told_words, told_generations, told_lists, head) {
+    if !looks::is_empty_as_told(line, told_tables, told_generations, head) {
         return Verdict::Differs;
     }
     if !calls::is_replayed(call.kind) {
         return Verdict::Agrees;
     }
     let same = is_same(
-        told_words,
+        told_tables,
         told_generations,
-        told_lists,
-        words,
+        tables,
         generations,
-        small,
-        medium,
-        large,
         head,
         ours,
     );
@@ -318,43 +285,31 @@ fn leaf(line: &[u32; 128]) -> Verdict {
 // Takes a line that has as many numbers as its kind asks.
 pub fn take(
     line: &[u32; 128],
-    told_words: &mut [u32; 2048],
+    told_tables: &mut [[u32; 2048]; 4],
     told_generations: &mut [u8; 256],
-    told_lists: &mut [[u32; 1024]; 3],
-    words: &mut [u32; 2048],
+    tables: &mut [[u32; 2048]; 4],
     generations: &mut [u8; 256],
-    small: &mut [u32; 1024],
-    medium: &mut [u32; 1024],
-    large: &mut [u32; 1024],
     kept: Kept,
     at: u64,
 ) -> Step {
     match line[0] {
-        1 | 5 | 6 => open(
+        1 | 2 | 5 | 6 => open(
             line,
-            told_words,
+            told_tables,
             told_generations,
-            told_lists,
-            words,
+            tables,
             generations,
-            small,
-            medium,
-            large,
             kept,
             at,
         ),
-        2..=4 => open_later(line, told_words, told_generations, told_lists, kept, at),
+        3 | 4 => open_later(line, told_tables, told_generations, kept, at),
         9 => {
             let verdict = close(
                 line,
-                told_words,
+                told_tables,
                 told_generations,
-                told_lists,
-                words,
+                tables,
                 generations,
-                small,
-                medium,
-                large,
                 kept,
             );
             Step {
@@ -362,7 +317,7 @@ pub fn take(
                 verdict: verdict,
             }
         }
-        10..=14 => change(line, told_words, told_generations, told_lists, kept),
+        10..=14 => change(line, told_tables, told_generations, kept),
         _ => Step {
             kept: kept,
             verdict: leaf(line),

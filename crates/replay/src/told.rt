@@ -1,5 +1,6 @@
-// The state that the list tells of: its tables, of 256 slots and 1,024 entries a list, and the head. A change at a place
-// that the tables don't have, or to a number that they can't have, is not made.
+// The state that the list tells of: the slots' words and the three lists in one array, for 256 slots and 2,048 entries a
+// list, the generations, and the head. A change at a place that the tables don't have, or to a number that they can't have,
+// is not made.
 use buckets::Lengths;
 use geometry::AllocatorOptions;
 use geometry::Size;
@@ -17,8 +18,8 @@ fn size_at(line: &[u32; 128], at: usize) -> Size
     }
 }
 
-// The size on a line of kind 1, 4 or 6.
-pub fn sheet_on(line: &[u32; 128]) -> Size {
+// The size on a line of kind 1, 2, 4 or 6.
+pub fn size_on(line: &[u32; 128]) -> Size {
     size_at(line, 1)
 }
 
@@ -41,20 +42,19 @@ pub fn untold(sheet: Size, options: AllocatorOptions) -> Head {
         spare: AllocIndex(0),
         count: 257,
         lengths: Lengths {
-            small: 1025,
-            medium: 1025,
-            large: 1025,
+            small: 2049,
+            medium: 2049,
+            large: 2049,
         },
     }
 }
 
 // Forgets the tables: they hold what no start writes.
-pub fn forget(words: &mut [u32; 2048], generations: &mut [u8; 256], lists: &mut [[u32; 1024]; 3]) {
-    let list = [4294967295u32; 1024];
-    let three = [list; 3];
-    *words = [4294967295; 2048];
+pub fn forget(tables: &mut [[u32; 2048]; 4], generations: &mut [u8; 256]) {
+    let table = [4294967295u32; 2048];
+    let four = [table; 4];
+    *tables = four;
     *generations = [255; 256];
-    *lists = three;
 }
 
 fn place(number: u32) -> usize {
@@ -62,20 +62,20 @@ fn place(number: u32) -> usize {
 }
 
 // 10 slot parent next prev code x0 y0 x1 y1
-fn slot(line: &[u32; 128], words: &mut [u32; 2048]) -> bool {
+fn slot(line: &[u32; 128], tables: &mut [[u32; 2048]; 4]) -> bool {
     let slot = place(line[1]);
     if slot >= 256 {
         return false;
     }
     let at = slot * 8;
-    words[at] = line[2];
-    words[at + 1] = line[3];
-    words[at + 2] = line[4];
-    words[at + 3] = line[5];
-    words[at + 4] = line[6];
-    words[at + 5] = line[7];
-    words[at + 6] = line[8];
-    words[at + 7] = line[9];
+    tables[0][at] = line[2];
+    tables[0][at + 1] = line[3];
+    tables[0][at + 2] = line[4];
+    tables[0][at + 3] = line[5];
+    tables[0][at + 4] = line[6];
+    tables[0][at + 5] = line[7];
+    tables[0][at + 6] = line[8];
+    tables[0][at + 7] = line[9];
     true
 }
 
@@ -94,16 +94,16 @@ fn generation(line: &[u32; 128], generations: &mut [u8; 256]) -> bool {
 }
 
 // 13 bucket place entry
-fn entry(line: &[u32; 128], lists: &mut [[u32; 1024]; 3]) -> bool {
+fn entry(line: &[u32; 128], tables: &mut [[u32; 2048]; 4]) -> bool {
     let bucket = place(line[1]);
     let at = place(line[2]);
     if bucket >= 3 {
         return false;
     }
-    if at >= 1024 {
+    if at >= 2048 {
         return false;
     }
-    lists[bucket][at] = line[3];
+    tables[bucket + 1][at] = line[3];
     true
 }
 
@@ -115,20 +115,19 @@ fn is_in_range(line: &[u32; 128]) -> bool {
     if line[1] > 2 {
         return false;
     }
-    line[2] <= 1024
+    line[2] <= 2048
 }
 
 // Makes the change of a line of kind 10 to 14 in the tables; 12 and 14 change the head only.
 pub fn change(
     line: &[u32; 128],
-    words: &mut [u32; 2048],
+    tables: &mut [[u32; 2048]; 4],
     generations: &mut [u8; 256],
-    lists: &mut [[u32; 1024]; 3],
 ) -> bool {
     match line[0] {
-        10 => slot(line, words),
+        10 => slot(line, tables),
         11 => generation(line, generations),
-        13 => entry(line, lists),
+        13 => entry(line, tables),
         _ => is_in_range(line),
     }
 }
