@@ -4,7 +4,7 @@ use Rattle.tickets.specs.Tickets.{slotOf}
 use Rattle.tickets.specs.declared.AllocId.{AllocId}
 use Rattle.steps.specs.State.{State}
 use Rattle.audit.specs.Answers.{Given, given, afterCheck, Answers}
-use Rattle.views.specs.Views.{ticketAnswer}
+use Rattle.lookup.specs.Lookup.{ticketAnswer}
 use Rattle.frees.specs.Frees.{released}
 
 -- What it hands over.

@@ -12,8 +12,8 @@ use Rattle.sound.specs.LiveTickets.{LiveTicket}
 use Rattle.audit.specs.Answers.{given, afterCheck}
 use Rattle.audit.specs.Audited.{Checked}
 use Rattle.audit.specs.AnswerLaws.{answers-done}
-use Rattle.views.specs.Views.{ticketAnswer}
-use Rattle.views.specs.TicketLaws.{ticket-cases}
+use Rattle.lookup.specs.Lookup.{ticketAnswer}
+use Rattle.lookup.specs.TicketLaws.{ticket-cases}
 use Rattle.frees.specs.Frees.{released}
 use Rattle.freed.specs.Many.{alloc-seen}
 use Rattle.releasing.specs.Releasable.{Releasable}

@@ -22,9 +22,9 @@ use Rattle.sound.specs.LiveTickets.{LiveTicket}
 use Rattle.lent.specs.Lent.{LentOf}
 use Rattle.audit.specs.Answers.{Given, given, afterCheck}
 use Rattle.audit.specs.AnswerLaws.{answers-once, answers-other, answers-sound, answers-refused}
-use Rattle.views.specs.Views.{ticketAnswer, lookup, IndexCall}
-use Rattle.views.specs.TicketLaws.{ticket-cases}
-use Rattle.views.specs.ViewsWhen.{index-gives-1, index-gives-2, index-gives-8, index-gives-9, index-gives-10, index-gives-0}
+use Rattle.lookup.specs.Lookup.{ticketAnswer, lookup, IndexCall}
+use Rattle.lookup.specs.TicketLaws.{ticket-cases}
+use Rattle.lookup.specs.LookupWhen.{index-gives-1, index-gives-2, index-gives-8, index-gives-9, index-gives-10, index-gives-0}
 use Rattle.frees.specs.Frees.{released}
 use Rattle.freed.specs.Terms.{FreesOne, Among, Tickets, releasedEach, SameSlots, OneFree}
 use Rattle.freed.specs.Promises.{release-keeps-sound, release-frees-one, order-is-free, all-freed-leaves-one}

@@ -33,7 +33,7 @@ pub fn deallocate(
             head: head,
         };
     }
-    let told = views::ticket_answer(words, generations, head.count, id);
+    let told = lookup::ticket_answer(words, generations, head.count, id);
     if told != 0 {
         return Deallocation {
             answer: told,

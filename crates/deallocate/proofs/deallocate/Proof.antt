@@ -3,7 +3,7 @@
 use mathlib.Core.Path.{refl}
 use Rattle.steps.specs.State.{state}
 use Rattle.audit.specs.AnswerLaws.{answers-checked}
-use Rattle.views.specs.HeldLaws.{checked-held}
+use Rattle.lookup.specs.HeldLaws.{checked-held}
 use Rattle.deallocate.specs.DeallocateLaws.{leaves-refused, live-releasable, leaves-freed}
 use borrow.Author.Needs.{needs}
 use Rattle.deallocate.proofs.deallocate.Statement.{statement}
