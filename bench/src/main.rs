@@ -1,9 +1,9 @@
-//! Times the check on sound tables against one copy of the same tables, and looks for the least stack that it runs in.
+//! Times the check on sound tables against one copy of the same tables, and looks for the least stack that it and deallocate run in.
 
 mod check;
 mod sheets;
 
-use check::check;
+use check::{check, deallocate};
 use model::rules::audit;
 use model::tables::{Kind, Tables};
 use std::hint::black_box;
@@ -95,19 +95,27 @@ fn times() {
     }
 }
 
-/// Runs the check in a thread with this much stack; a thread that runs over it ends the process.
-fn run_in(stack: usize, name: &str, slots: u32) {
-    let tables = made(name, slots);
+/// The ticket of the last slot that is Alloc; the generations are all 0.
+fn last_ticket(tables: &Tables) -> u32 {
+    (0..tables.head.count).rev().find(|&i| tables.slot(i).kind == Kind::Alloc).expect("an Alloc slot")
+}
+
+/// Runs the check, or deallocate of the last ticket, in a thread with this much stack; a thread that runs over it ends the process.
+fn run_in(call: &str, stack: usize, name: &str, slots: u32) {
+    let mut tables = made(name, slots);
     let thread = std::thread::Builder::new().stack_size(stack);
-    let answer = thread.spawn(move || check(&tables)).expect("a thread").join().expect("an answer");
+    let frees = call == "deallocate";
+    let ticket = last_ticket(&tables);
+    let run = move || if frees { deallocate(&mut tables, ticket) } else { check(&tables) };
+    let answer = thread.spawn(run).expect("a thread").join().expect("an answer");
     assert_eq!(answer, 0);
 }
 
-/// The least stack, to 1 KiB, of a thread that runs the check and nothing else.
-fn least_stack(name: &str, slots: u32) -> usize {
+/// The least stack, to 1 KiB, of a thread that runs the call and nothing else.
+fn least_stack(call: &str, name: &str, slots: u32) -> usize {
     let runs = |kib: usize| {
         let mut again = Command::new(std::env::current_exe().expect("the program"));
-        again.args(["stack", &(kib * 1024).to_string(), name, &slots.to_string()]).stderr(Stdio::null());
+        again.args([call, &(kib * 1024).to_string(), name, &slots.to_string()]).stderr(Stdio::null());
         again.status().expect("a run").success()
     };
     let (mut less, mut enough) = (0, 8_192);
@@ -125,8 +133,8 @@ fn least_stack(name: &str, slots: u32) -> usize {
 
 fn main() {
     let words: Vec<String> = std::env::args().collect();
-    if let [_, _, stack, name, slots] = &words[..] {
-        return run_in(stack.parse().expect("bytes"), name, slots.parse().expect("slots"));
+    if let [_, call, stack, name, slots] = &words[..] {
+        return run_in(call, stack.parse().expect("bytes"), name, slots.parse().expect("slots"));
     }
     for slots in [512, 4_096] {
         for name in NAMES {
@@ -139,7 +147,9 @@ fn main() {
     }
     times();
     for name in NAMES {
-        println!("{name}, 4,096 slots: runs in {} KiB of stack", least_stack(name, 4_096));
+        for call in ["check", "deallocate"] {
+            println!("{name}, 4,096 slots: {call} runs in {} KiB of stack", least_stack(call, name, 4_096));
+        }
     }
-    println!("one slot: runs in {} KiB of stack", least_stack("deepest nesting", 1));
+    println!("one slot: check runs in {} KiB of stack", least_stack("check", "deepest nesting", 1));
 }
