@@ -16,7 +16,7 @@ use Rattle.steps.specs.State.{State}
 use Rattle.sound.specs.Sound.{Sound}
 use Rattle.lent.specs.Lent.{LentOf}
 use Rattle.audit.specs.Answers.{Given, given}
-use Rattle.audit.specs.AnswerLaws.{answers-once, answers-cases, answers-1, answers-2, answers-other}
+use Rattle.audit.specs.AnswerLaws.{answers-once, answers-cases, answers-1, answers-2, answers-other, on-sound}
 use Rattle.grants.specs.Grants.{Grant, grant, refused, taken, granted}
 use Rattle.granted.specs.Cases.{grant-cases}
 use Rattle.granted.specs.Terms.{Roomy, Chooses, TooFew, Enough, Refuses, GivesOut}
@@ -60,10 +60,6 @@ taken-answers : (s : State) (e : Extent) (k : ℕ) → (k ≡ 0 → ⊥) → (k 
 unfolding taken
 taken-answers s e k zero six seven =
     grant-cases s e (λ g. g .answer ≡ k → ⊥) (λ c q. six (sym q)) (λ i b j c n q. seven (sym q)) (λ i b j c n q. zero (sym q))
-
--- A number given on sound tables exactly when P holds there.
-on-sound : {s : State} {X Y P : Type 0} → X ↔ (LentOf s × Sound s × Y) → (LentOf s → Sound s → Y ↔ P) → X ↔ (LentOf s × Sound s × P)
-on-sound f g = (λ x. let h = f .0 x in (h .0, h .1, g (h .0) (h .1) .0 (h .2)), λ h. f .1 (h .0, h .1, g (h .0) (h .1) .1 (h .2)))
 
 -- Two requests that were told apart.
 same-extent : {d e : Extent} → Of d ≡ Of e → d ≡ e

@@ -60,6 +60,10 @@ module _ {A : Type 0} {nothing : A} {s : State} {core : Given A} where
     answers-refused f =
         answers-cases a (λ (g : Given A). (g .answer ≡ 0 → ⊥) → g ≡ given (g .answer) nothing s) (λ _ _. refl) (λ _ _ _. refl) (λ _ _. f)
 
+-- A number given on sound tables exactly when P holds there.
+pub on-sound : {s : State} {X Y P : Type 0} → X ↔ (LentOf s × Sound s × Y) → (LentOf s → Sound s → Y ↔ P) → X ↔ (LentOf s × Sound s × P)
+on-sound f g = (λ x. let h = f .0 x in (h .0, h .1, g (h .0) (h .1) .0 (h .2)), λ h. f .1 (h .0, h .1, g (h .0) (h .1) .1 (h .2)))
+
 -- The outcome where the check said no, and where it said 0.
 module _ {A : Type 0} {nothing : A} {s : State} {k : ℕ} (c : Checked s k) where
   pub answers-checked : {core : Given A} → (k ≡ 0 → ⊥) → {v : A} → v ≡ nothing → Answers nothing s core (given k v s)

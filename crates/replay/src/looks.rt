@@ -1,8 +1,8 @@
 // What is read off the state that the list tells of: our lookup and our "is it empty", held against the list.
+use lookup::Looked;
 use steps::Head;
 use tickets::AllocId;
 use views::Emptiness;
-use views::Looked;
 
 fn looked(
     words: &[u32; 2048],
@@ -13,7 +13,7 @@ fn looked(
     head: Head,
     ticket: u32,
 ) -> Looked {
-    views::index(
+    lookup::index(
         words,
         generations,
         small,

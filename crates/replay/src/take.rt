@@ -142,10 +142,10 @@ fn ticket(
     head: Head,
 ) -> Verdict {
     match line[0] {
-        2 => replay::allocate(line),
+        2 => rebuilt::allocate(line),
         3 => {
             if looks::is_live(words, generations, lists, head, line[1]) {
-                return replay::deallocate(line);
+                return rebuilt::deallocate(line);
             }
             Verdict::Differs
         }

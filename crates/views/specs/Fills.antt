@@ -1,4 +1,4 @@
--- What the functions below the calls ask and do: tables that hold their slots, and how a listing is written.
+-- What the functions below the calls ask and do: how a listing is written.
 -- Assumes nothing.
 use mathlib.Core.List.{List}
 use Prim.Native.Nat.{ℕ, _+_, _≤_, _<_}
@@ -10,13 +10,7 @@ use Rattle.table.specs.Table.{HasSlot}
 use Rattle.slots.specs.declared.NodeKind.{NodeKind}
 use Rattle.slots.specs.declared.NodeKind.the-variants.{Alloc}
 use Rattle.lists.specs.Lists.{Bag, bag}
-use Rattle.links.specs.Links.{Table}
 use Rattle.views.specs.Views.{entryAt}
-
--- What the calls ask once the check has said 0: tables that hold the first n slots and their generations.
-pub record Held (w g : List ℕ) (n : ℕ) : Type 0 where
-  pub table : Table w n
-  pub bytes : n ≤ length g
 
 -- How many words an entry of a kind's listing has.
 abbrev pub entryWords : NodeKind → ℕ

@@ -22,7 +22,8 @@ use Rattle.slots.specs.declared.NodeKind.the-variants.{Alloc}
 use Rattle.lists.specs.Lists.{Bag, bag}
 use Rattle.steps.specs.Spares.{ofKind, countKind}
 use Rattle.views.specs.Views.{corners, entryOf, entryAt, entries, filled, writtenOver, listAnswer, listFilled}
-use Rattle.views.specs.Fills.{Held, entryWords, wrote, Enterable}
+use Rattle.lookup.specs.Held.{Held}
+use Rattle.views.specs.Fills.{entryWords, wrote, Enterable}
 
 -- Nothing written, and words written after words.
 pub wrote-nothing : (l : List ℕ) → bag l 0 ≡ wrote (bag l 0) []

@@ -1,17 +1,16 @@
--- WHAT CAN BE READ OFF THE TABLES: a ticket's rectangle, the listings, and whether the sheet is empty. None of it changes a table.
+-- WHAT CAN BE READ OFF THE TABLES beside a ticket's rectangle: the listings, and whether the sheet is empty. None of it changes a table.
 -- Assumes nothing.
 use mathlib.Core.Path.{_≡_}
-use mathlib.Core.Bool.{Bool, false, _&&_, not}
+use mathlib.Core.Bool.{Bool, false, _&&_}
 use mathlib.Core.List.{List, [], _∷_, _++_}
 use Prim.Native.Nat.{ℕ, zero, suc, _<_}
 use lib.ListN.{length, getD, drop}
-use lib.Dec.{eqb, leb}
+use lib.Dec.{leb}
 use Rattle.geometry.specs.Choice.{pick}
-use Rattle.geometry.specs.Rectangles.{noRect}
 use Rattle.geometry.specs.declared.Rectangle.{Rectangle}
 use Rattle.slots.specs.Slots.{slot, isNone, sameKind}
 use Rattle.table.specs.Table.{nodeAt}
-use Rattle.tickets.specs.Tickets.{ticketOf, slotOf, generationOf}
+use Rattle.tickets.specs.Tickets.{ticketOf}
 use Rattle.tickets.specs.declared.AllocId.{AllocId}
 use Rattle.slots.specs.declared.AllocIndex.{AllocIndex}
 use Rattle.slots.specs.declared.NodeKind.{NodeKind}
@@ -21,25 +20,6 @@ use Rattle.steps.specs.State.{State}
 use Rattle.sound.specs.View.{seen, Live}
 use Rattle.sound.specs.Sound.{sheetOf}
 use Rattle.audit.specs.Answers.{Given, given, Answers}
-
--- LOOKUP. 8: the ticket's slot is not below n; 9: its generation differs; 10: its slot is not Alloc; else 0.
-unfoldable pub ticketAnswer : List ℕ → List ℕ → ℕ → AllocId → ℕ
-ticketAnswer w g n t =
-    pick (leb n (slotOf t .0)) 8
-    (pick (not (eqb (getD g (slotOf t .0) 0) (generationOf t))) 9 (pick (not (sameKind (nodeAt w (slotOf t) .kind) Alloc)) 10 0))
-
--- The rectangle of a live ticket, the zero rectangle of another.
-unfoldable pub ticketRect : List ℕ → List ℕ → ℕ → AllocId → Rectangle
-ticketRect w g n t = pick (eqb (ticketAnswer w g n t) 0) (nodeAt w (slotOf t) .rect) noRect
-
--- What the lookup gives on sound tables.
-abbrev pub lookup : State → AllocId → Given Rectangle
-lookup s t =
-    given (ticketAnswer (s .words) (s .generations) (s .head .count) t) (ticketRect (s .words) (s .generations) (s .head .count) t) s
-
--- The call: 1, 2, 8, 9, 10.
-abbrev pub IndexCall : State → AllocId → Given Rectangle → Type 0
-IndexCall s t o = Answers noRect s (lookup s t) o
 
 -- LISTINGS. The four corners of a rectangle, as words.
 abbrev pub corners : Rectangle → List ℕ

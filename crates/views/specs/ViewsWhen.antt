@@ -1,4 +1,4 @@
--- WHEN EACH ANSWER IS GIVEN, in the paper's words, by the lookup, the listings and "is it empty"; what comes with 0; and that a refusal
+-- WHEN EACH ANSWER IS GIVEN, in the paper's words, by the listings and "is it empty"; what comes with 0; and that a refusal
 -- gives nothing and changes nothing. Each speaks of any outcome that meets the call's contract; there is no other (`answers-once`).
 -- Assumes nothing.
 use mathlib.Core.Path.{_≡_, refl, ap, sym, _∙_}
@@ -11,11 +11,9 @@ use lib.ListN.{length, getD}
 use lib.Dec.{leb}
 use borrow.Author.Tests.{leb-true, leb-false}
 use Rattle.geometry.specs.Choice.{pick}
-use Rattle.geometry.specs.Rectangles.{noRect}
-use Rattle.geometry.specs.declared.Rectangle.{Rectangle}
 use Rattle.slots.specs.Slots.{slot}
 use Rattle.table.specs.Table.{nodeAt}
-use Rattle.tickets.specs.Tickets.{ticketOf, slotOf, generationOf}
+use Rattle.tickets.specs.Tickets.{ticketOf, slotOf}
 use Rattle.tickets.specs.TicketLaws.{ticket-together, ticket-slot, ticket-generation}
 use Rattle.tickets.specs.declared.AllocId.{AllocId}
 use Rattle.slots.specs.declared.AllocIndex.{AllocIndex}
@@ -27,87 +25,9 @@ use Rattle.steps.specs.State.{State}
 use Rattle.sound.specs.Sound.{Sound}
 use Rattle.lent.specs.Lent.{LentOf}
 use Rattle.audit.specs.Answers.{Given, given}
-use Rattle.audit.specs.AnswerLaws.{answers-cases, answers-1, answers-2, answers-other, answers-sound, answers-refused}
-use Rattle.views.specs.Views.{lookup, IndexCall, entries, Filled, filled, writtenOver, listAnswer, listFilled, listing, ListCall, WholeFree, OnlyFree, EmptyCall}
-use Rattle.views.specs.TicketLaws.{ticket-cases}
+use Rattle.audit.specs.AnswerLaws.{answers-cases, answers-1, answers-2, answers-other, answers-sound, answers-refused, on-sound}
+use Rattle.views.specs.Views.{entries, Filled, filled, writtenOver, listAnswer, listFilled, listing, ListCall, WholeFree, OnlyFree, EmptyCall}
 use Rattle.views.specs.EmptyLaws.{whole-free-at-root, whole-free-only}
-
--- A number given on sound tables exactly when P holds there.
-on-sound : {s : State} {X Y P : Type 0} → X ↔ (LentOf s × Sound s × Y) → Y ↔ P → X ↔ (LentOf s × Sound s × P)
-on-sound f g = (λ x. let h = f .0 x in (h .0, h .1, g .0 (h .2)), λ h. f .1 (h .0, h .1, g .1 (h .2)))
-
--- LOOKUP.
-module _ (s : State) (t : AllocId) where
-  by-ticket : (P : Given Rectangle → Type 0) → (s .head .count ≤ slotOf t .0 → P (given 8 noRect s))
-      → (slotOf t .0 < s .head .count → (getD (s .generations) (slotOf t .0) 0 ≡ generationOf t → ⊥) → P (given 9 noRect s))
-      → (slotOf t .0 < s .head .count → getD (s .generations) (slotOf t .0) 0 ≡ generationOf t → (nodeAt (s .words) (slotOf t) .kind ≡ Alloc → ⊥) → P (given 10 noRect s))
-      → (LiveTicket s t → P (given 0 (nodeAt (s .words) (slotOf t) .rect) s)) → P (lookup s t)
-  by-ticket P eight nine ten live =
-      ticket-cases (s .words) (s .generations) (s .head .count) t (λ a r. P (given a r s)) eight nine ten
-      (λ b p k. live (record { below = b; present = p; alloc = k }))
-
-  module _ {o : Given Rectangle} (call : IndexCall s t o) where
-    -- 1: a table length is outside its range.
-    pub index-gives-1 : (o .answer ≡ 1) ↔ (LentOf s → ⊥)
-    index-gives-1 =
-        answers-1 call
-        (by-ticket (λ (g : Given Rectangle). g .answer ≡ 1 → ⊥) (λ _ e. omega arith) (λ _ _ e. omega arith) (λ _ _ _ e. omega arith) (λ _ e. omega arith))
-
-    -- 2: the lengths are in range and the tables are not sound.
-    pub index-gives-2 : (o .answer ≡ 2) ↔ (LentOf s × (Sound s → ⊥))
-    index-gives-2 =
-        answers-2 call
-        (by-ticket (λ (g : Given Rectangle). g .answer ≡ 2 → ⊥) (λ _ e. omega arith) (λ _ _ e. omega arith) (λ _ _ _ e. omega arith) (λ _ e. omega arith))
-
-    -- 8: the tables are sound, of lengths in range, and the ticket's slot is not below n.
-    pub index-gives-8 : (o .answer ≡ 8) ↔ (LentOf s × Sound s × (s .head .count ≤ slotOf t .0))
-    index-gives-8 =
-        on-sound (answers-other call 8 (λ e. omega arith) (λ e. omega arith))
-        (by-ticket (λ (g : Given Rectangle). (g .answer ≡ 8) ↔ (s .head .count ≤ slotOf t .0)) (λ h. (λ _. h, λ _. refl))
-        (λ b _. (λ e. absurd (omega arith), λ h. absurd (omega arith))) (λ b _ _. (λ e. absurd (omega arith), λ h. absurd (omega arith)))
-        (λ l. (λ e. absurd (omega arith), λ h. absurd (omega (arith, l .below)))))
-
-    -- 9: its slot is below n, and its generation differs.
-    pub index-gives-9 : (o .answer ≡ 9) ↔ (LentOf s × Sound s × ((slotOf t .0 < s .head .count) × (getD (s .generations) (slotOf t .0) 0 ≡ generationOf t → ⊥)))
-    index-gives-9 =
-        on-sound (answers-other call 9 (λ e. omega arith) (λ e. omega arith))
-        (by-ticket (λ (g : Given Rectangle). (g .answer ≡ 9) ↔ ((slotOf t .0 < s .head .count) × (getD (s .generations) (slotOf t .0) 0 ≡ generationOf t → ⊥)))
-        (λ h. (λ e. absurd (omega arith), λ p. absurd (omega (arith, p .0)))) (λ b d. (λ _. (b, d), λ _. refl))
-        (λ _ p _. (λ e. absurd (omega arith), λ h. absurd (h .1 p))) (λ l. (λ e. absurd (omega arith), λ h. absurd (h .1 (l .present)))))
-
-    -- 10: its slot is below n, its generation is the present one, and its slot is not Alloc.
-    pub index-gives-10 : (o .answer ≡ 10)
-        ↔ (LentOf s × Sound s × ((slotOf t .0 < s .head .count) × (getD (s .generations) (slotOf t .0) 0 ≡ generationOf t) × (nodeAt (s .words) (slotOf t) .kind ≡ Alloc → ⊥)))
-    index-gives-10 =
-        on-sound (answers-other call 10 (λ e. omega arith) (λ e. omega arith))
-        (by-ticket
-        (λ (g : Given Rectangle). (g .answer ≡ 10)
-        ↔ ((slotOf t .0 < s .head .count) × (getD (s .generations) (slotOf t .0) 0 ≡ generationOf t) × (nodeAt (s .words) (slotOf t) .kind ≡ Alloc → ⊥)))
-        (λ h. (λ e. absurd (omega arith), λ p. absurd (omega (arith, p .0)))) (λ _ d. (λ e. absurd (omega arith), λ h. absurd (d (h .1))))
-        (λ b p k. (λ _. (b, p, k), λ _. refl)) (λ l. (λ e. absurd (omega arith), λ h. absurd (h .2 (l .alloc)))))
-
-    -- 0: the ticket is live.
-    pub index-gives-0 : (o .answer ≡ 0) ↔ (LentOf s × Sound s × LiveTicket s t)
-    index-gives-0 =
-        on-sound (answers-other call 0 (λ e. omega arith) (λ e. omega arith))
-        (by-ticket (λ (g : Given Rectangle). (g .answer ≡ 0) ↔ LiveTicket s t) (λ h. (λ e. absurd (omega arith), λ l. absurd (omega (arith, l .below))))
-        (λ _ d. (λ e. absurd (omega arith), λ l. absurd (d (l .present)))) (λ _ _ d. (λ e. absurd (omega arith), λ l. absurd (d (l .alloc))))
-        (λ l. (λ _. l, λ _. refl)))
-
-    -- A live ticket's rectangle is given, and nothing changes.
-    pub index-gives-rect : o .answer ≡ 0 → o ≡ given 0 (nodeAt (s .words) (slotOf t) .rect) s
-    index-gives-rect z =
-        let h = answers-other call 0 (λ e. omega arith) (λ e. omega arith) .0 z in
-        answers-sound call (h .0) (h .1)
-        ∙ by-ticket (λ (g : Given Rectangle). g .answer ≡ 0 → g ≡ given 0 (nodeAt (s .words) (slotOf t) .rect) s) (λ _ e. absurd (omega arith))
-        (λ _ _ e. absurd (omega arith)) (λ _ _ _ e. absurd (omega arith)) (λ _ _. refl) (h .2)
-
-    -- A refusal gives the zero rectangle and changes nothing.
-    pub index-refused : (o .answer ≡ 0 → ⊥) → o ≡ given (o .answer) noRect s
-    index-refused =
-        answers-refused call
-        (by-ticket (λ (g : Given Rectangle). (g .answer ≡ 0 → ⊥) → g ≡ given (g .answer) noRect s) (λ _ _. refl) (λ _ _ _. refl) (λ _ _ _ _. refl)
-        (λ _ d. absurd (d refl)))
 
 -- TICKETS. The ticket that the Alloc listing has for a slot is live,
 pub listed-ticket-is-live : (s : State) → LentOf s → Sound s → (i : ℕ) → i < s .head .count → nodeAt (s .words) (slot i) .kind ≡ Alloc
@@ -150,14 +70,14 @@ module _ (kind : NodeKind) (s : State) (out : List ℕ) where
     pub listing-gives-12 : (o .answer ≡ 12) ↔ (LentOf s × Sound s × (length out < length (entries (s .words) (s .generations) kind (s .head .count))))
     listing-gives-12 =
         on-sound (answers-other call 12 (λ e. omega arith) (λ e. omega arith))
-        (by-room (λ (g : Given Filled). (g .answer ≡ 12) ↔ (length out < length all)) (λ h. (λ _. h, λ _. refl))
+        (λ _ _. by-room (λ (g : Given Filled). (g .answer ≡ 12) ↔ (length out < length all)) (λ h. (λ _. h, λ _. refl))
         (λ h. (λ e. absurd (omega arith), λ k. absurd (omega arith))))
 
     -- 0: it isn't.
     pub listing-gives-0 : (o .answer ≡ 0) ↔ (LentOf s × Sound s × (length (entries (s .words) (s .generations) kind (s .head .count)) ≤ length out))
     listing-gives-0 =
         on-sound (answers-other call 0 (λ e. omega arith) (λ e. omega arith))
-        (by-room (λ (g : Given Filled). (g .answer ≡ 0) ↔ (length all ≤ length out)) (λ h. (λ e. absurd (omega arith), λ k. absurd (omega arith)))
+        (λ _ _. by-room (λ (g : Given Filled). (g .answer ≡ 0) ↔ (length all ≤ length out)) (λ h. (λ e. absurd (omega arith), λ k. absurd (omega arith)))
         (λ h. (λ _. h, λ _. refl)))
 
     -- With 0 comes the listing, in slot order, with its count; places past it keep their bytes, and no table changes.

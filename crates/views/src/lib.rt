@@ -13,14 +13,9 @@ ghost use Rattle.slots.specs.declared.NodeKind.the-variants.{Alloc, Free};
 ghost use Rattle.lists.specs.Lists.{bag};
 ghost use Rattle.steps.specs.State.{state};
 ghost use Rattle.audit.specs.Answers.{given};
-ghost use Rattle.views.specs.Views.{ticketAnswer, ticketRect, IndexCall, corners, entryOf, entryAt, entries, writtenOver, filled, listAnswer, listFilled, ListCall, loneFree, EmptyCall};
-ghost use Rattle.views.specs.Fills.{Held, entryWords, wrote, Enterable};
-
-// A number of the paper's list, with a live ticket's rectangle.
-pub struct Looked {
-    pub answer: u32,
-    pub rect: Rectangle,
-}
+ghost use Rattle.views.specs.Views.{corners, entryOf, entryAt, entries, writtenOver, filled, listAnswer, listFilled, ListCall, loneFree, EmptyCall};
+ghost use Rattle.lookup.specs.Held.{Held};
+ghost use Rattle.views.specs.Fills.{entryWords, wrote, Enterable};
 
 // A number of the paper's list, with how many entries a listing has.
 pub struct Listing {
@@ -32,50 +27,6 @@ pub struct Listing {
 pub struct Emptiness {
     pub answer: u32,
     pub empty: bool,
-}
-
-// What a ticket is on tables of n slots: 0 if it is live, else 8, 9 or 10.
-pub fn ticket_answer(words: &[u32], generations: &[u8], n: u32, id: AllocId) -> u32
-    requires { ⌜ Held (now words) (now generations) n ⌝ }
-    ensures { λ r. ⌜ r ≡ ticketAnswer (now (words .entry)) (now (generations .entry)) n id ⌝ }
-{
-    let i = tickets::get_index(id);
-    if i.0 >= n {
-        return 8;
-    }
-    let at = i.0 as usize;
-    let present = generations[at];
-    let told = tickets::get_generation(id);
-    if present != told {
-        return 9;
-    }
-    let node = table::node_at(words, i);
-    let kind = node.kind;
-    if !slots::same_kind(kind, NodeKind::Alloc) {
-        return 10;
-    }
-    0
-}
-
-// The rectangle of a live ticket.
-pub fn look_up(words: &[u32], generations: &[u8], n: u32, id: AllocId) -> Looked
-    requires { ⌜ Held (now words) (now generations) n ⌝ }
-    ensures { λ r. ⌜ (r .answer ≡ ticketAnswer (now (words .entry)) (now (generations .entry)) n id)
-        × (r .rect ≡ ticketRect (now (words .entry)) (now (generations .entry)) n id) ⌝ }
-{
-    let answer = ticket_answer(words, generations, n, id);
-    if answer != 0 {
-        return Looked {
-            answer: answer,
-            rect: geometry::no_rect(),
-        };
-    }
-    let node = table::node_at(words, tickets::get_index(id));
-    let rect = node.rect;
-    Looked {
-        answer: 0,
-        rect: rect,
-    }
 }
 
 // How many words an entry of a kind's listing has.
@@ -187,29 +138,6 @@ fn is_lone_free(words: &[u32], root: AllocIndex) -> bool
     }
     let next = node.next;
     slots::is_none(next)
-}
-
-// A ticket's rectangle. 8: its slot is not below n; 9: its generation differs; 10: its slot is not Alloc.
-pub fn index(
-    words: &[u32],
-    generations: &[u8],
-    small: &[u32],
-    medium: &[u32],
-    large: &[u32],
-    head: Head,
-    id: AllocId,
-) -> Looked
-    ensures { λ r. ⌜ IndexCall (state head (now (words .entry)) (now (generations .entry)) (now (small .entry)) (now (medium .entry)) (now (large .entry))) id
-        (given (r .answer) (r .rect) (state head (now (words .exit)) (now (generations .exit)) (now (small .exit)) (now (medium .exit)) (now (large .exit)))) ⌝ }
-{
-    let found = audit::check(words, generations, small, medium, large, head);
-    if found != 0 {
-        return Looked {
-            answer: found,
-            rect: geometry::no_rect(),
-        };
-    }
-    look_up(words, generations, head.count, id)
 }
 
 // The listing of a kind, into a lent list. 12: the lent list is shorter than the listing.

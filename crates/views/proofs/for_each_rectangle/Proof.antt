@@ -1,7 +1,7 @@
 use mathlib.Core.Path.{refl}
 use Rattle.steps.specs.State.{state}
 use Rattle.audit.specs.AnswerLaws.{answers-checked, answers-core}
-use Rattle.views.specs.HeldLaws.{checked-held}
+use Rattle.lookup.specs.HeldLaws.{checked-held}
 use borrow.Author.Needs.{needs}
 use Rattle.views.proofs.for_each_rectangle.Statement.{statement}
 use Rattle.views.proofs.for_each_rectangle.Tie as tie

@@ -1,7 +1,7 @@
-use Rattle.views.specs.TicketLaws.{ticket-out, ticket-old, ticket-other, ticket-live}
+use Rattle.lookup.specs.TicketLaws.{ticket-out, ticket-old, ticket-other, ticket-live}
 use borrow.Author.Needs.{needs}
-use Rattle.views.proofs.ticket_answer.Statement.{statement}
-use Rattle.views.proofs.ticket_answer.Tie as tie
+use Rattle.lookup.proofs.ticket_answer.Statement.{statement}
+use Rattle.lookup.proofs.ticket_answer.Tie as tie
 
 get-index-requires : tie.Need-get-index-requires
 get-index-requires c κs = search needs

@@ -1,9 +1,9 @@
 use mathlib.Core.Path.{sym, _∙_}
 use native.Mathlib.Omega.{arith}
-use Rattle.views.specs.TicketLaws.{live-below, rect-none, rect-live}
+use Rattle.lookup.specs.TicketLaws.{live-below, rect-none, rect-live}
 use borrow.Author.Needs.{needs}
-use Rattle.views.proofs.look_up.Statement.{statement}
-use Rattle.views.proofs.look_up.Tie as tie
+use Rattle.lookup.proofs.look_up.Statement.{statement}
+use Rattle.lookup.proofs.look_up.Tie as tie
 
 ticket-answer-requires : tie.Need-ticket-answer-requires
 ticket-answer-requires c κs = search needs

@@ -1,9 +1,9 @@
 use Rattle.steps.specs.State.{state}
 use Rattle.audit.specs.AnswerLaws.{answers-checked, answers-core}
-use Rattle.views.specs.HeldLaws.{checked-held}
+use Rattle.lookup.specs.HeldLaws.{checked-held}
 use borrow.Author.Needs.{needs}
-use Rattle.views.proofs.index.Statement.{statement}
-use Rattle.views.proofs.index.Tie as tie
+use Rattle.lookup.proofs.index.Statement.{statement}
+use Rattle.lookup.proofs.index.Tie as tie
 
 check-requires : tie.Need-check-requires
 check-requires c κs = search needs

@@ -19,7 +19,7 @@ use Rattle.slots.specs.declared.AllocIndex.{AllocIndex}
 use Rattle.slots.specs.declared.Node.{Node}
 use Rattle.slots.specs.declared.NodeKind.the-variants.{Alloc}
 use Rattle.links.specs.TestLaws.{fails, kind-says}
-use Rattle.views.specs.Views.{ticketAnswer, ticketRect}
+use Rattle.lookup.specs.Lookup.{ticketAnswer, ticketRect}
 
 module _ (w g : List ℕ) (n : ℕ) (t : AllocId) {i : AllocIndex} (is : i ≡ slotOf t) where
   pub ticket-out : n ≤ i .0 → 8 ≡ ticketAnswer w g n t
