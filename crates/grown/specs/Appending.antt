@@ -83,19 +83,13 @@ module _ (s : State) (all : Rectangle) (L : LentOf s) (S : Fills s all) (i : All
       append-writes (s .words) (lent-few s L) i (f .taken) t (let e = L .eight in let k = S .rule1 .fits in let z = lv .0 in omega arith)
       (new-has-slot (L .few) T (lent-slots s L) (f .taken .0) (inl refl)) apart
 
-  was-kind : (j : ℕ) → (In j (f .taken .0 ∷ []) → ⊥) → seen w′ j .kind ≡ seen (s .words) j .kind
-  was-kind j m = go (ℕ-discrete j (i .0))
+  -- which leave every other slot its kind and rectangle,
+  was : (j : ℕ) → (In j (f .taken .0 ∷ []) → ⊥) → (seen w′ j .kind ≡ seen (s .words) j .kind) × (seen w′ j .rect ≡ seen (s .words) j .rect)
+  was j m = go (ℕ-discrete j (i .0))
     where
-      go : Dec (j ≡ i .0) → seen w′ j .kind ≡ seen (s .words) j .kind
-      go (yes e) = rw e (ap (λ (z : Seen). z .kind) (writes .chosen))
-      go (no e) = ap (λ (z : Seen). z .kind) (writes .other j (⊎-elim e m))
-
-  was-rect : (j : ℕ) → (In j (f .taken .0 ∷ []) → ⊥) → seen w′ j .rect ≡ seen (s .words) j .rect
-  was-rect j m = go (ℕ-discrete j (i .0))
-    where
-      go : Dec (j ≡ i .0) → seen w′ j .rect ≡ seen (s .words) j .rect
-      go (yes e) = rw e (ap (λ (z : Seen). z .rect) (writes .chosen))
-      go (no e) = ap (λ (z : Seen). z .rect) (writes .other j (⊎-elim e m))
+      go : Dec (j ≡ i .0) → (seen w′ j .kind ≡ seen (s .words) j .kind) × (seen w′ j .rect ≡ seen (s .words) j .rect)
+      go (yes e) = rw (e, writes .chosen) (refl, refl)
+      go (no e) = rw (writes .other j (⊎-elim e m)) (refl, refl)
 
   -- where the top chain is now,
   grows : Adjoin (seen (s .words) (s .head .root .0) .orientation) all t × Grown (seen w′) (f .head .count) (s .head .root .0) (join all t)
@@ -110,9 +104,9 @@ module _ (s : State) (all : Rectangle) (L : LentOf s) (S : Fills s all) (i : All
     merged = append-merged (seen (s .words)) (seen w′) (s .head .count) (f .head .count) (s .head .root .0) (i .0) (f .taken .0) t (S .rule3) (T .taken) writes lv x solid (S .rule4);
     words = length-linked (s .words) i (f .taken) o t;
     new-kind = λ j m. inr (⊎-elim {C = seen w′ j .kind ≡ Free} (λ e. rw e (ap (λ (z : Seen). z .kind) (writes .new))) (λ z. absurd z) m);
-    kind = was-kind;
+    kind = λ j m. was j m .0;
     next = λ j d m. ap (λ (z : Seen). z .next) (writes .other j (⊎-elim (λ e. false≢true (sym (d .1) ∙ rw e (lv .1))) m));
-    rect = λ j m a. was-rect j m;
+    rect = λ j m a. was j m .1;
   }
 
   -- and the new entry.
@@ -121,7 +115,7 @@ module _ (s : State) (all : Rectangle) (L : LentOf s) (S : Fills s all) (i : All
       let len = length-linked (s .words) i (f .taken) o t in
       push-stocks w′ (f .head .count) (setupAt s) (listsOf s) (rw len (let k = T .fits in omega (arith, lent-slots s L))) (rw len (lent-few s L)) (λ b. rw len (lent-room s L b))
       (piece (f .taken .0) t)
-      (more-stocks (f .taken .0 ∷ []) (listed-stocked (S .rule1) (S .rule6)) (T .taken .grow) (λ j b k m. (T .taken .counted j b m, sym (was-kind j m) ∙ k, was-rect j m)))
+      (more-stocks (f .taken .0 ∷ []) (listed-stocked (S .rule1) (S .rule6)) (T .taken .grow) (λ j b k m. (T .taken .counted j b m, sym (was j m .0) ∙ k, was j m .1)))
       (T .taken .below (f .taken .0) (inl refl)) (ap (λ (z : Seen). z .rect) (writes .new))
 
   appends : Adjoin (seen (s .words) (s .head .root .0) .orientation) all t

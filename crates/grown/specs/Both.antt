@@ -26,7 +26,7 @@ use Rattle.grows.specs.Grows.{growth, along, lastFrom, stretchedRect, appendedR
 use Rattle.grown.specs.Fills.{Fills, Carries, Lone, Roots, carries-same, carries-both}
 use Rattle.grown.specs.Chains.{OnTop, last-on-top}
 use Rattle.grown.specs.Filled.{whole-some, last-some}
-use Rattle.grown.specs.Growths.{appended-adjoins, appended-some, appended-join, whole-stretched, stretched-none, strip-adjoins, strip-joins, strip-some, along-alone}
+use Rattle.grown.specs.Growths.{larger-some, appended-adjoins, appended-some, appended-join, whole-stretched, stretched-none, strip-adjoins, strip-joins, strip-some, along-alone}
 use Rattle.grown.specs.Stretching.{last-steps, last-roots}
 use Rattle.grown.specs.Appending.{append-steps}
 use Rattle.grown.specs.Crossing.{cross-steps}
@@ -114,7 +114,7 @@ module _ (s : State) (old new : Size) (L : LentOf s) (S : Fills s (sheetOf old))
 
   -- The new sheet is not empty.
   some : NotEmpty (sheetOf new)
-  some = let z = whole-some (seen (s .words)) (s .head .count) (s .head .root .0) (S .rule3) (sheetOf old) (S .rule5) in (omega arith, omega arith)
+  some = larger-some old new wide tall (whole-some (seen (s .words)) (s .head .count) (s .head .root .0) (S .rule3) (sheetOf old) (S .rule5))
 
   after : (m : State) (k : ℕ) → Reaches s m (stretchedRect o (sheetOf old) d) k → (b : Bool) → ltb 0 (along (flip o) (growth old new)) ≡ b → k + pick b 2 0 ≤ spareAt s
       → Fills (pick b (grownAcross m (stripRect (flip o) old new)) m) (sheetOf new) × Carries s (pick b (grownAcross m (stripRect (flip o) old new)) m) (k + pick b 2 0)

@@ -45,6 +45,10 @@ module _ (old new : Size) (wide : natural (old .width) ≤ natural (new .width))
   back : (a b : ℕ) → a ≤ b → a + (b - a) ≡ b
   back a b h = omega arith
 
+  -- A sheet no smaller than one that is not empty is not either.
+  pub larger-some : NotEmpty (sheetOf old) → NotEmpty (sheetOf new)
+  larger-some h = (omega arith, omega arith)
+
   -- The strip adjoins the sheet as it is after the growth along, and with it makes the new sheet.
   pub strip-adjoins : (o : Orientation) → Adjoin (flip o) (stretchedRect o (sheetOf old) (along o (growth old new))) (stripRect (flip o) old new)
   unfolding growth

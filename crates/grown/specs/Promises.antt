@@ -22,7 +22,7 @@ module _ (s : State) (new : Size) (L : LentOf s) (S : Sound s) (G : GrowDue s ne
   grow-keeps-sound = let z = grown-steps s new L S G in (fills-sound (z .0) (ap sheetOf (sym (z .1 .sheet))), z .1 .lent)
 
   -- TICKETS. The sheet has the new size and the options stay; every live ticket stays live with its rectangle, and none becomes live;
-  -- every live slot keeps its generation.
+  -- every live slot keeps its generation, and as many fewer slots are spare as were asked for.
   pub grow-keeps-tickets : Grows s new (grown s new)
   unfolding seen
   grow-keeps-tickets =

@@ -3,7 +3,6 @@
 use Prim.Native.Nat.{_+_, _≤_}
 use mathlib.Core.Path.{_≡_, refl}
 use mathlib.Core.Bool.{Bool, true, false}
-use native.Mathlib.Omega.{arith}
 use Rattle.geometry.specs.Choice.{pick}
 use Rattle.geometry.specs.Sides.{setupOf}
 use Rattle.geometry.specs.declared.Size.{Size}
@@ -20,6 +19,7 @@ use Rattle.granted.specs.Terms.{spareAt}
 use Rattle.grows.specs.Grows.{withSheet, isLone, stretched, grownBoth, grown, growSlots}
 use Rattle.grown.specs.Fills.{Fills, Carries, Lone}
 use Rattle.grown.specs.Filled.{whole-some}
+use Rattle.grown.specs.Growths.{larger-some}
 use Rattle.grown.specs.Stretching.{lone-steps}
 use Rattle.grown.specs.Both.{needsAlong, needsAcross, both-steps}
 use Rattle.grown.specs.Terms.{GrowDue}
@@ -55,10 +55,8 @@ module _ (s : State) (new : Size) (L : LentOf s) (S : Sound s) (G : GrowDue s ne
 
   some : NotEmpty (sheetOf new)
   some =
-      let z = whole-some (seen (s .words)) (s .head .count) (s .head .root .0) (S .rule3) (sheetOf (s .head .sheet)) (S .rule5) in
-      let w = G .wide in
-      let h = G .tall in
-      (omega arith, omega arith)
+      larger-some (s .head .sheet) new (G .wide) (G .tall)
+      (whole-some (seen (s .words)) (s .head .count) (s .head .root .0) (S .rule3) (sheetOf (s .head .sheet)) (S .rule5))
 
   -- The new sheet is filled, and as many slots are taken as counted.
   pub grown-steps : Fills (grown s new) (sheetOf new) × Carries t (grown s new) (growSlots s new)
