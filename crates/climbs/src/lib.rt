@@ -101,19 +101,19 @@ fn is_only_child(words: &[u32], i: AllocIndex) -> bool
     !slots::is_none(parent)
 }
 
-// Slot i gives its rectangle to its parent, which turns Free, and becomes spare.
-fn give_up(words: &mut [u32], spare: AllocIndex, i: AllocIndex) -> Rung
-    requires { ⌜ HasSlot (now words) i × HasSlot (now words) (nodeAt (now words) i .parent) ⌝ }
-    ensures { λ r. ⌜ level (now (words .exit)) (r .spare) (r .at) ≡ givenUp (level (now (words .entry)) spare i) ⌝ }
+// A child gives its rectangle to its parent, which turns Free, and becomes spare.
+fn give_up(words: &mut [u32], spare: AllocIndex, child: AllocIndex) -> Rung
+    requires { ⌜ HasSlot (now words) child × HasSlot (now words) (nodeAt (now words) child .parent) ⌝ }
+    ensures { λ r. ⌜ level (now (words .exit)) (r .spare) (r .at) ≡ givenUp (level (now (words .entry)) spare child) ⌝ }
 {
-    let node = table::node_at(words, i);
+    let node = table::node_at(words, child);
     let rect = node.rect;
     let parent = node.parent;
     table::set_rect(words, parent, rect);
     table::set_kind(words, parent, NodeKind::Free);
-    steps::mark_node_unused(words, spare, i);
+    steps::mark_node_unused(words, spare, child);
     Rung {
-        spare: i,
+        spare: child,
         at: parent,
     }
 }
