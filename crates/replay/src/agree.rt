@@ -58,32 +58,26 @@ fn same_generations(told: &[u8; 256], ours: &[u8; 256], n: usize) -> bool {
     same_bytes(told, ours, n)
 }
 
-fn same_lists(told: &[[u32; 2048]; 4], ours: &[[u32; 2048]; 4], lengths: Lengths) -> bool {
-    if !same_list(&told[1], &ours[1], lengths.small) {
+fn same_lists(tables: &[[u32; 2048]; 8], lengths: Lengths) -> bool {
+    if !same_list(&tables[1], &tables[5], lengths.small) {
         return false;
     }
-    if !same_list(&told[2], &ours[2], lengths.medium) {
+    if !same_list(&tables[2], &tables[6], lengths.medium) {
         return false;
     }
-    same_list(&told[3], &ours[3], lengths.large)
+    same_list(&tables[3], &tables[7], lengths.large)
 }
 
-pub fn same_tables(
-    told_tables: &[[u32; 2048]; 4],
-    told_generations: &[u8; 256],
-    tables: &[[u32; 2048]; 4],
-    generations: &[u8; 256],
-    told: Head,
-) -> bool {
+pub fn same_tables(tables: &[[u32; 2048]; 8], generations: &[[u8; 256]; 2], told: Head) -> bool {
     let n = told.count as usize;
     let lengths = told.lengths;
-    if !same_words(&told_tables[0], &tables[0], n) {
+    if !same_words(&tables[0], &tables[4], n) {
         return false;
     }
-    if !same_generations(told_generations, generations, n) {
+    if !same_generations(&generations[0], &generations[1], n) {
         return false;
     }
-    same_lists(told_tables, tables, lengths)
+    same_lists(tables, lengths)
 }
 
 fn same_size(a: Size, b: Size) -> bool {

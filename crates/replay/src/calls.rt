@@ -154,47 +154,60 @@ fn call(
     }
 }
 
+// Our tables become what the list told.
+fn copy_told(tables: &mut [[u32; 2048]; 8], generations: &mut [[u8; 256]; 2]) {
+    let words = tables[0];
+    let small = tables[1];
+    let medium = tables[2];
+    let large = tables[3];
+    let bytes = generations[0];
+    tables[4] = words;
+    tables[5] = small;
+    tables[6] = medium;
+    tables[7] = large;
+    generations[1] = bytes;
+}
+
 // The call of a line, on our tables as they stand.
 fn made_on(
     line: &[u32; 128],
-    tables: &mut [[u32; 2048]; 4],
-    generations: &mut [u8; 256],
+    tables: &mut [[u32; 2048]; 8],
+    generations: &mut [[u8; 256]; 2],
     head: Head,
 ) -> Given {
-    let mut words = tables[0];
-    let mut small = tables[1];
-    let mut medium = tables[2];
-    let mut large = tables[3];
-    let made = call(
+    let mut words = tables[4];
+    let mut small = tables[5];
+    let mut medium = tables[6];
+    let mut large = tables[7];
+    let mut bytes = generations[1];
+    let given = call(
         line,
         &mut words,
-        generations,
+        &mut bytes,
         &mut small,
         &mut medium,
         &mut large,
         head,
     );
-    tables[0] = words;
-    tables[1] = small;
-    tables[2] = medium;
-    tables[3] = large;
-    made
+    tables[4] = words;
+    tables[5] = small;
+    tables[6] = medium;
+    tables[7] = large;
+    generations[1] = bytes;
+    given
 }
 
 // What the call of a line gives: before is the head that the list told of before it, and last the one that our last call left.
 pub fn made(
     line: &[u32; 128],
-    told_tables: &[[u32; 2048]; 4],
-    told_generations: &[u8; 256],
-    tables: &mut [[u32; 2048]; 4],
-    generations: &mut [u8; 256],
+    tables: &mut [[u32; 2048]; 8],
+    generations: &mut [[u8; 256]; 2],
     before: Head,
     last: Head,
 ) -> Given {
     if line[0] == 1 {
         return made_on(line, tables, generations, last);
     }
-    *tables = *told_tables;
-    *generations = *told_generations;
+    copy_told(tables, generations);
     made_on(line, tables, generations, before)
 }

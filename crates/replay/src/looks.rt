@@ -26,8 +26,8 @@ fn looked(
 
 // Whether the tables are sound and the ticket is live.
 pub fn is_live(
-    tables: &[[u32; 2048]; 4],
-    generations: &[u8; 256],
+    tables: &[[u32; 2048]; 8],
+    generations: &[[u8; 256]; 2],
     head: Head,
     ticket: u32,
 ) -> bool {
@@ -35,7 +35,8 @@ pub fn is_live(
     let small = tables[1];
     let medium = tables[2];
     let large = tables[3];
-    let ours = looked(&words, generations, &small, &medium, &large, head, ticket);
+    let bytes = generations[0];
+    let ours = looked(&words, &bytes, &small, &medium, &large, head, ticket);
     ours.answer == 0
 }
 
@@ -53,15 +54,16 @@ fn emptiness(
 // 9 empty: whether the tables are sound, and the sheet is empty just where the line says so.
 pub fn is_empty_as_told(
     line: &[u32; 128],
-    tables: &[[u32; 2048]; 4],
-    generations: &[u8; 256],
+    tables: &[[u32; 2048]; 8],
+    generations: &[[u8; 256]; 2],
     head: Head,
 ) -> bool {
     let words = tables[0];
     let small = tables[1];
     let medium = tables[2];
     let large = tables[3];
-    let ours = emptiness(&words, generations, &small, &medium, &large, head);
+    let bytes = generations[0];
+    let ours = emptiness(&words, &bytes, &small, &medium, &large, head);
     if ours.answer != 0 {
         return false;
     }

@@ -84,10 +84,8 @@ struct Run {
 fn take_line(
     line: &[u32; 128],
     read: Line,
-    told_tables: &mut [[u32; 2048]; 4],
-    told_generations: &mut [u8; 256],
-    tables: &mut [[u32; 2048]; 4],
-    generations: &mut [u8; 256],
+    tables: &mut [[u32; 2048]; 8],
+    generations: &mut [[u8; 256]; 2],
     counts: &mut [u64; 32],
     run: Run,
 ) -> Run {
@@ -104,15 +102,7 @@ fn take_line(
             tally: verdict::counted(tally, 0, 0, Verdict::Fault),
         };
     }
-    let step = take::take(
-        line,
-        told_tables,
-        told_generations,
-        tables,
-        generations,
-        kept,
-        tally.lines,
-    );
+    let step = take::take(line, tables, generations, kept, tally.lines);
     let after = step.kept;
     let verdict = step.verdict;
     Run {
@@ -130,10 +120,8 @@ struct Pass {
 fn take_next(
     line: &mut [u32; 128],
     buffer: &mut [u8; 65536],
-    told_tables: &mut [[u32; 2048]; 4],
-    told_generations: &mut [u8; 256],
-    tables: &mut [[u32; 2048]; 4],
-    generations: &mut [u8; 256],
+    tables: &mut [[u32; 2048]; 8],
+    generations: &mut [[u8; 256]; 2],
     counts: &mut [u64; 32],
     pass: Pass,
 ) -> Pass
@@ -145,16 +133,7 @@ fn take_next(
     let after = reading::next_line(line, buffer, before);
     let read = after.line;
     Pass {
-        run: take_line(
-            line,
-            read,
-            told_tables,
-            told_generations,
-            tables,
-            generations,
-            counts,
-            run,
-        ),
+        run: take_line(line, read, tables, generations, counts, run),
         reading: after,
     }
 }
@@ -164,12 +143,10 @@ fn take_next(
 fn read_all(counts: &mut [u64; 32]) -> Tally {
     let mut line = [0u32; 128];
     let mut buffer = io::large_buffer();
-    let zeros = [0u32; 2048];
-    let mut told_tables = [zeros; 4];
-    let mut told_generations = [0u8; 256];
     let sevens = [7u32; 2048];
-    let mut tables = [sevens; 4];
-    let mut generations = [7u8; 256];
+    let mut tables = [sevens; 8];
+    let bytes = [7u8; 256];
+    let mut generations = [bytes; 2];
     let mut pass = Pass {
         run: Run {
             kept: take::nothing_yet(&line),
@@ -182,8 +159,6 @@ fn read_all(counts: &mut [u64; 32]) -> Tally {
         pass = take_next(
             &mut line,
             &mut buffer,
-            &mut told_tables,
-            &mut told_generations,
             &mut tables,
             &mut generations,
             counts,

@@ -65,8 +65,8 @@ fn with_sheet(head: Head, sheet: Size) -> Head {
 // The head that is told of after a line of kind 1, 2, 5 or 6, as far as that line says it.
 fn told_after(
     line: &[u32; 128],
-    tables: &mut [[u32; 2048]; 4],
-    generations: &mut [u8; 256],
+    tables: &mut [[u32; 2048]; 8],
+    generations: &mut [[u8; 256]; 2],
     head: Head,
 ) -> Head {
     let mut after = head;
@@ -87,10 +87,8 @@ fn told_after(
 // 1 w h aw ah small large, 2 w h answer ticket x0 y0 x1 y1, 5, and 6 w h aw ah small large
 fn open(
     line: &[u32; 128],
-    told_tables: &mut [[u32; 2048]; 4],
-    told_generations: &mut [u8; 256],
-    tables: &mut [[u32; 2048]; 4],
-    generations: &mut [u8; 256],
+    tables: &mut [[u32; 2048]; 8],
+    generations: &mut [[u8; 256]; 2],
     kept: Kept,
     at: u64,
 ) -> Step {
@@ -101,16 +99,8 @@ fn open(
     if call.kind != 0 {
         return fault(kept);
     }
-    let ours = calls::made(
-        line,
-        told_tables,
-        told_generations,
-        tables,
-        generations,
-        before,
-        head,
-    );
-    let after = told_after(line, told_tables, told_generations, before);
+    let ours = calls::made(line, tables, generations, before, head);
+    let after = told_after(line, tables, generations, before);
     Step {
         kept: Kept {
             told: after,
@@ -127,8 +117,8 @@ fn open(
 // What is found of the line of a call that is not replayed yet. The ticket of a deallocate is live before it.
 fn ticket(
     line: &[u32; 128],
-    tables: &[[u32; 2048]; 4],
-    generations: &[u8; 256],
+    tables: &[[u32; 2048]; 8],
+    generations: &[[u8; 256]; 2],
     head: Head,
 ) -> Verdict {
     if line[0] != 3 {
@@ -151,8 +141,8 @@ fn grown(line: &[u32; 128], head: Head) -> Head {
 // 3 ticket, and 4 w h
 fn open_later(
     line: &[u32; 128],
-    told_tables: &[[u32; 2048]; 4],
-    told_generations: &[u8; 256],
+    tables: &[[u32; 2048]; 8],
+    generations: &[[u8; 256]; 2],
     kept: Kept,
     at: u64,
 ) -> Step {
@@ -171,7 +161,7 @@ fn open_later(
                 at: at,
             },
         },
-        verdict: ticket(line, told_tables, told_generations, head),
+        verdict: ticket(line, tables, generations, head),
     }
 }
 
@@ -186,8 +176,8 @@ fn telling(kind: u32) -> Verdict {
 // 10 to 14
 fn change(
     line: &[u32; 128],
-    tables: &mut [[u32; 2048]; 4],
-    generations: &mut [u8; 256],
+    tables: &mut [[u32; 2048]; 8],
+    generations: &mut [[u8; 256]; 2],
     kept: Kept,
 ) -> Step {
     let call = kept.call;
@@ -216,10 +206,8 @@ fn is_due(line: &[u32; 128], call: Call) -> bool {
 
 // Whether our call gave the answers and left the state that the list tells of.
 fn is_same(
-    told_tables: &[[u32; 2048]; 4],
-    told_generations: &[u8; 256],
-    tables: &[[u32; 2048]; 4],
-    generations: &[u8; 256],
+    tables: &[[u32; 2048]; 8],
+    generations: &[[u8; 256]; 2],
     head: Head,
     ours: Given,
 ) -> bool {
@@ -230,7 +218,7 @@ fn is_same(
     if !agree::same_head(head, left) {
         return false;
     }
-    agree::same_tables(told_tables, told_generations, tables, generations, head)
+    agree::same_tables(tables, generations, head)
 }
 
 // What is kept once the call is closed.
@@ -243,10 +231,8 @@ fn closed(kept: Kept) -> Kept {
 // 9 empty
 fn close(
     line: &[u32; 128],
-    told_tables: &[[u32; 2048]; 4],
-    told_generations: &[u8; 256],
-    tables: &[[u32; 2048]; 4],
-    generations: &[u8; 256],
+    tables: &[[u32; 2048]; 8],
+    generations: &[[u8; 256]; 2],
     kept: Kept,
 ) -> Verdict {
     let call = kept.call;
@@ -255,20 +241,13 @@ fn close(
     if !is_due(line, call) {
         return Verdict::Fault;
     }
-    if !looks::is_empty_as_told(line, told_tables, told_generations, head) {
+    if !looks::is_empty_as_told(line, tables, generations, head) {
         return Verdict::Differs;
     }
     if !calls::is_replayed(call.kind) {
         return Verdict::Agrees;
     }
-    let same = is_same(
-        told_tables,
-        told_generations,
-        tables,
-        generations,
-        head,
-        ours,
-    );
+    let same = is_same(tables, generations, head, ours);
     verdict::told(same)
 }
 
@@ -285,39 +264,22 @@ fn leaf(line: &[u32; 128]) -> Verdict {
 // Takes a line that has as many numbers as its kind asks.
 pub fn take(
     line: &[u32; 128],
-    told_tables: &mut [[u32; 2048]; 4],
-    told_generations: &mut [u8; 256],
-    tables: &mut [[u32; 2048]; 4],
-    generations: &mut [u8; 256],
+    tables: &mut [[u32; 2048]; 8],
+    generations: &mut [[u8; 256]; 2],
     kept: Kept,
     at: u64,
 ) -> Step {
     match line[0] {
-        1 | 2 | 5 | 6 => open(
-            line,
-            told_tables,
-            told_generations,
-            tables,
-            generations,
-            kept,
-            at,
-        ),
-        3 | 4 => open_later(line, told_tables, told_generations, kept, at),
+        1 | 2 | 5 | 6 => open(line, tables, generations, kept, at),
+        3 | 4 => open_later(line, tables, generations, kept, at),
         9 => {
-            let verdict = close(
-                line,
-                told_tables,
-                told_generations,
-                tables,
-                generations,
-                kept,
-            );
+            let verdict = close(line, tables, generations, kept);
             Step {
                 kept: closed(kept),
                 verdict: verdict,
             }
         }
-        10..=14 => change(line, told_tables, told_generations, kept),
+        10..=14 => change(line, tables, generations, kept),
         _ => Step {
             kept: kept,
             verdict: leaf(line),

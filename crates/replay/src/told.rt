@@ -1,6 +1,6 @@
-// The state that the list tells of: the slots' words and the three lists in one array, for 256 slots and 2,048 entries a
-// list, the generations, and the head. A change at a place that the tables don't have, or to a number that they can't have,
-// is not made.
+// The state that the list tells of, for 256 slots and 2,048 entries a list. Tables 0 to 3 are the slots' words and the three
+// lists as told, and 4 to 7 the same of ours; the generations told come before ours too. A change at a place that the tables
+// don't have, or to a number that they can't have, is not made.
 use buckets::Lengths;
 use geometry::AllocatorOptions;
 use geometry::Size;
@@ -49,12 +49,15 @@ pub fn untold(sheet: Size, options: AllocatorOptions) -> Head {
     }
 }
 
-// Forgets the tables: they hold what no start writes.
-pub fn forget(tables: &mut [[u32; 2048]; 4], generations: &mut [u8; 256]) {
+// Forgets the tables that were told: they hold what no start writes.
+pub fn forget(tables: &mut [[u32; 2048]; 8], generations: &mut [[u8; 256]; 2]) {
     let table = [4294967295u32; 2048];
-    let four = [table; 4];
-    *tables = four;
-    *generations = [255; 256];
+    let bytes = [255u8; 256];
+    tables[0] = table;
+    tables[1] = table;
+    tables[2] = table;
+    tables[3] = table;
+    generations[0] = bytes;
 }
 
 fn place(number: u32) -> usize {
@@ -62,25 +65,25 @@ fn place(number: u32) -> usize {
 }
 
 // 10 slot parent next prev code x0 y0 x1 y1
-fn slot(line: &[u32; 128], tables: &mut [[u32; 2048]; 4]) -> bool {
+fn slot(line: &[u32; 128], words: &mut [u32; 2048]) -> bool {
     let slot = place(line[1]);
     if slot >= 256 {
         return false;
     }
     let at = slot * 8;
-    tables[0][at] = line[2];
-    tables[0][at + 1] = line[3];
-    tables[0][at + 2] = line[4];
-    tables[0][at + 3] = line[5];
-    tables[0][at + 4] = line[6];
-    tables[0][at + 5] = line[7];
-    tables[0][at + 6] = line[8];
-    tables[0][at + 7] = line[9];
+    words[at] = line[2];
+    words[at + 1] = line[3];
+    words[at + 2] = line[4];
+    words[at + 3] = line[5];
+    words[at + 4] = line[6];
+    words[at + 5] = line[7];
+    words[at + 6] = line[8];
+    words[at + 7] = line[9];
     true
 }
 
 // 11 slot generation
-fn generation(line: &[u32; 128], generations: &mut [u8; 256]) -> bool {
+fn generation(line: &[u32; 128], generations: &mut [[u8; 256]; 2]) -> bool {
     let slot = place(line[1]);
     let value = line[2];
     if slot >= 256 {
@@ -89,12 +92,12 @@ fn generation(line: &[u32; 128], generations: &mut [u8; 256]) -> bool {
     if value > 255 {
         return false;
     }
-    generations[slot] = value as u8;
+    generations[0][slot] = value as u8;
     true
 }
 
 // 13 bucket place entry
-fn entry(line: &[u32; 128], tables: &mut [[u32; 2048]; 4]) -> bool {
+fn entry(line: &[u32; 128], tables: &mut [[u32; 2048]; 8]) -> bool {
     let bucket = place(line[1]);
     let at = place(line[2]);
     if bucket >= 3 {
@@ -121,11 +124,11 @@ fn is_in_range(line: &[u32; 128]) -> bool {
 // Makes the change of a line of kind 10 to 14 in the tables; 12 and 14 change the head only.
 pub fn change(
     line: &[u32; 128],
-    tables: &mut [[u32; 2048]; 4],
-    generations: &mut [u8; 256],
+    tables: &mut [[u32; 2048]; 8],
+    generations: &mut [[u8; 256]; 2],
 ) -> bool {
     match line[0] {
-        10 => slot(line, tables),
+        10 => slot(line, &mut tables[0]),
         11 => generation(line, generations),
         13 => entry(line, tables),
         _ => is_in_range(line),

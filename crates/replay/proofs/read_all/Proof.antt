@@ -7,11 +7,11 @@ use Rattle.replay.proofs.read_all.Statement.{statement}
 use Rattle.replay.proofs.read_all.Tie as tie
 
 abbrev Inv-loop : tie.InvT-loop
-Inv-loop counts₀ line₀ buffer₀ told-tables₀ told-generations₀ tables₀ generations₀ pass₀ turns₀ counts line buffer told-tables told-generations tables generations pass turns =
+Inv-loop counts₀ line₀ buffer₀ tables₀ generations₀ pass₀ turns₀ counts line buffer tables generations pass turns =
     pass .reading .end ≤ 65536
 
 abbrev μ-loop : tie.MeasureT-loop
-μ-loop counts₀ line₀ buffer₀ told-tables₀ told-generations₀ tables₀ generations₀ pass₀ turns₀ counts line buffer told-tables told-generations tables generations pass turns =
+μ-loop counts₀ line₀ buffer₀ tables₀ generations₀ pass₀ turns₀ counts line buffer tables generations pass turns =
     turns
 
 large-buffer-requires : tie.Need-large-buffer-requires Inv-loop μ-loop
@@ -33,10 +33,10 @@ take-next-requires : tie.Need-take-next-requires Inv-loop μ-loop
 take-next-requires c κs = search needs
 
 sub-turns : tie.Need-sub-turns Inv-loop μ-loop
-sub-turns c = omega (arith, c .before .before .before .before .before .before .before .before .before .before .loop-test .taken)
+sub-turns c = omega (arith, c .before .before .before .before .before .before .before .before .loop-test .taken)
 
 loop-less : tie.Need-loop-less Inv-loop μ-loop
-loop-less c = omega (arith, c .before .before .before .before .before .before .before .before .before .before .loop-test .taken)
+loop-less c = omega (arith, c .before .before .before .before .before .before .before .before .loop-test .taken)
 
 loop-again : tie.Need-loop-again Inv-loop μ-loop
 loop-again c = search needs

@@ -11,7 +11,7 @@ take-line-requires : tie.Need-take-line-requires
 take-line-requires c κs = search needs
 
 returns : tie.Need-returns
-returns c = c .before .before .before .before .before .before .before .before .next-line .ensures
+returns c = c .before .before .before .before .before .before .next-line .ensures
 
 pub take-next-spec : {M : Type 1} → statement M
 take-next-spec = tie.close (tie.spec next-line-requires take-line-requires returns)
