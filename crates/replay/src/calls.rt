@@ -1,11 +1,13 @@
 // The calls that are replayed, on tables of our own. A start finds them as the call before left them; every other call begins
 // with the state that the list told of.
+use crate::rebuilt;
 use crate::told;
 use geometry::Rectangle;
 use geometry::Size;
 use granting::Allocation;
 use starts::Begun;
 use steps::Head;
+use tickets::AllocId;
 
 // What a call of ours gave: whether its answers are those on the line, and the head after it.
 pub struct Given {
@@ -16,7 +18,7 @@ pub struct Given {
 // Whether a call of this kind is replayed.
 pub fn is_replayed(kind: u32) -> bool {
     match kind {
-        1 | 2 | 5 | 6 => true,
+        1 | 2 | 3 | 5 | 6 => true,
         _ => false,
     }
 }
@@ -136,7 +138,67 @@ fn allocate(
     }
 }
 
-// The call of a line of kind 1, 2, 5 or 6.
+// Whether the ticket of a line of kind 3 is live, and its slot and generation make it again.
+fn is_ticket(
+    line: &[u32; 128],
+    words: &[u32; 2048],
+    generations: &[u8; 256],
+    small: &[u32; 2048],
+    medium: &[u32; 2048],
+    large: &[u32; 2048],
+    head: Head,
+) -> bool {
+    let looked = lookup::index(
+        words,
+        generations,
+        small,
+        medium,
+        large,
+        head,
+        AllocId(line[1]),
+    );
+    if looked.answer != 0 {
+        return false;
+    }
+    rebuilt::is_rebuilt(line[1])
+}
+
+// A live ticket is freed.
+fn is_freed(live: bool, answer: u32) -> bool {
+    if !live {
+        return false;
+    }
+    answer == 0
+}
+
+// 3 ticket
+fn deallocate(
+    line: &[u32; 128],
+    words: &mut [u32; 2048],
+    generations: &mut [u8; 256],
+    small: &mut [u32; 2048],
+    medium: &mut [u32; 2048],
+    large: &mut [u32; 2048],
+    head: Head,
+) -> Given {
+    let live = is_ticket(line, words, generations, small, medium, large, head);
+    let ours = deallocate::deallocate(
+        words,
+        generations,
+        small,
+        medium,
+        large,
+        head,
+        AllocId(line[1]),
+    );
+    let after = ours.head;
+    Given {
+        agrees: is_freed(live, ours.answer),
+        head: after,
+    }
+}
+
+// The call of a line of kind 1, 2, 3, 5 or 6.
 fn call(
     line: &[u32; 128],
     words: &mut [u32; 2048],
@@ -149,6 +211,7 @@ fn call(
     match line[0] {
         1 => start(line, words, generations, small, medium, large, head),
         2 => allocate(line, words, generations, small, medium, large, head),
+        3 => deallocate(line, words, generations, small, medium, large, head),
         5 => clear(words, generations, small, medium, large, head),
         _ => reset(line, words, generations, small, medium, large, head),
     }

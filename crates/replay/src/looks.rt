@@ -1,44 +1,6 @@
-// What is read off the state that the list tells of: our lookup and our "is it empty", held against the list.
-use lookup::Looked;
+// What is read off the state that the list tells of: our "is it empty", held against the list.
 use steps::Head;
-use tickets::AllocId;
 use views::Emptiness;
-
-fn looked(
-    words: &[u32; 2048],
-    generations: &[u8; 256],
-    small: &[u32; 2048],
-    medium: &[u32; 2048],
-    large: &[u32; 2048],
-    head: Head,
-    ticket: u32,
-) -> Looked {
-    lookup::index(
-        words,
-        generations,
-        small,
-        medium,
-        large,
-        head,
-        AllocId(ticket),
-    )
-}
-
-// Whether the tables are sound and the ticket is live.
-pub fn is_live(
-    tables: &[[u32; 2048]; 8],
-    generations: &[[u8; 256]; 2],
-    head: Head,
-    ticket: u32,
-) -> bool {
-    let words = tables[0];
-    let small = tables[1];
-    let medium = tables[2];
-    let large = tables[3];
-    let bytes = generations[0];
-    let ours = looked(&words, &bytes, &small, &medium, &large, head, ticket);
-    ours.answer == 0
-}
 
 fn emptiness(
     words: &[u32; 2048],

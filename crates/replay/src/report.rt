@@ -40,17 +40,17 @@ fn report_firsts(tally: Tally) {
     }
 }
 
-fn report_agreed(counts: &[u64; 32], tickets: u64) {
+fn report_agreed(counts: &[u64; 32]) {
     say(b"buckets agree ", counts[20]);
     say(b"roundings agree ", counts[21]);
     say(b"cuts agree ", counts[22]);
-    say(b"tickets agree ", tickets);
 }
 
 // The calls whose whole state agrees, and the lines that told of them.
 fn report_calls(counts: &[u64; 32], told: u64) {
     say(b"starts agree ", counts[1]);
     say(b"allocates agree ", counts[2]);
+    say(b"deallocates agree ", counts[3]);
     say(b"clears agree ", counts[5]);
     say(b"resets agree ", counts[6]);
     say(b"  lines that tell of these calls ", told);
@@ -59,7 +59,7 @@ fn report_calls(counts: &[u64; 32], told: u64) {
 
 pub fn report(counts: &[u64; 32], tally: Tally) {
     say(b"lines ", tally.lines);
-    report_agreed(counts, tally.tickets);
+    report_agreed(counts);
     report_calls(counts, tally.told);
     say(b"mismatches ", tally.mismatches);
     say(b"faults ", tally.faults);

@@ -5,7 +5,6 @@ use crate::calls;
 use crate::calls::Given;
 use crate::leaves;
 use crate::looks;
-use crate::rebuilt;
 use crate::told;
 use crate::verdict;
 use crate::verdict::Verdict;
@@ -62,7 +61,7 @@ fn with_sheet(head: Head, sheet: Size) -> Head {
     after
 }
 
-// The head that is told of after a line of kind 1, 2, 5 or 6, as far as that line says it.
+// The head that is told of after a line of kind 1, 2, 3, 5 or 6, as far as that line says it.
 fn told_after(
     line: &[u32; 128],
     tables: &mut [[u32; 2048]; 8],
@@ -84,7 +83,7 @@ fn told_after(
     after
 }
 
-// 1 w h aw ah small large, 2 w h answer ticket x0 y0 x1 y1, 5, and 6 w h aw ah small large
+// 1 w h aw ah small large, 2 w h answer ticket x0 y0 x1 y1, 3 ticket, 5, and 6 w h aw ah small large
 fn open(
     line: &[u32; 128],
     tables: &mut [[u32; 2048]; 8],
@@ -114,38 +113,8 @@ fn open(
     }
 }
 
-// What is found of the line of a call that is not replayed yet. The ticket of a deallocate is live before it.
-fn ticket(
-    line: &[u32; 128],
-    tables: &[[u32; 2048]; 8],
-    generations: &[[u8; 256]; 2],
-    head: Head,
-) -> Verdict {
-    if line[0] != 3 {
-        return Verdict::Later;
-    }
-    if looks::is_live(tables, generations, head, line[1]) {
-        return rebuilt::deallocate(line);
-    }
-    Verdict::Differs
-}
-
-// The head after a line of kind 3 or 4, as far as that line says it: grow changes the sheet.
-fn grown(line: &[u32; 128], head: Head) -> Head {
-    if line[0] == 4 {
-        return with_sheet(head, told::size_on(line));
-    }
-    head
-}
-
-// 3 ticket, and 4 w h
-fn open_later(
-    line: &[u32; 128],
-    tables: &[[u32; 2048]; 8],
-    generations: &[[u8; 256]; 2],
-    kept: Kept,
-    at: u64,
-) -> Step {
+// 4 w h
+fn open_later(line: &[u32; 128], kept: Kept, at: u64) -> Step {
     let call = kept.call;
     let head = kept.told;
     if call.kind != 0 {
@@ -154,14 +123,14 @@ fn open_later(
     let last = kept.ours;
     Step {
         kept: Kept {
-            told: grown(line, head),
+            told: with_sheet(head, told::size_on(line)),
             ours: last,
             call: Call {
                 kind: line[0],
                 at: at,
             },
         },
-        verdict: ticket(line, tables, generations, head),
+        verdict: Verdict::Later,
     }
 }
 
@@ -270,8 +239,8 @@ pub fn take(
     at: u64,
 ) -> Step {
     match line[0] {
-        1 | 2 | 5 | 6 => open(line, tables, generations, kept, at),
-        3 | 4 => open_later(line, tables, generations, kept, at),
+        1 | 2 | 3 | 5 | 6 => open(line, tables, generations, kept, at),
+        4 => open_later(line, kept, at),
         9 => {
             let verdict = close(line, tables, generations, kept);
             Step {

@@ -3,8 +3,6 @@
 pub enum Verdict {
     // Our code gives what the list says.
     Agrees,
-    // The line's ticket agrees; its call is not replayed yet.
-    Ticket,
     // The line is not replayed yet.
     Later,
     // The line tells of a call that is held against our code at its end.
@@ -18,7 +16,6 @@ pub enum Verdict {
 // The lines so far, and where the first mismatch and the first fault stood: line 0 where there was none.
 pub struct Tally {
     pub lines: u64,
-    pub tickets: u64,
     pub told: u64,
     pub later: u64,
     pub mismatches: u64,
@@ -31,7 +28,6 @@ pub struct Tally {
 pub fn none_yet() -> Tally {
     Tally {
         lines: 0,
-        tickets: 0,
         told: 0,
         later: 0,
         mismatches: 0,
@@ -80,11 +76,6 @@ pub fn counted(tally: Tally, kind: u32, at: u64, verdict: Verdict) -> Tally {
     let mut after = tally;
     match verdict {
         Verdict::Agrees => after,
-        Verdict::Ticket => {
-            after.tickets = reading::more(tally.tickets);
-            after.later = reading::more(tally.later);
-            after
-        }
         Verdict::Later => {
             after.later = reading::more(tally.later);
             after
