@@ -1,22 +1,22 @@
 -- The laws by which the climb is proved: what each step finds, and what a level comes to.
 -- Assumes nothing.
-use mathlib.Core.Path.{_≡_, refl, sym, _∙_}
-use mathlib.Core.Bool.{Bool, true, false, not}
+use mathlib.Core.Path.{_≡_}
+use mathlib.Core.Bool.{true, false, not}
 use mathlib.Core.List.{List}
-use Prim.Native.Nat.{ℕ, zero, suc, _-_, _<_}
+use Prim.Native.Nat.{ℕ, suc, _-_}
 use native.Mathlib.Omega.{arith}
 use borrow.Author.Tests.{not-true}
 use Rattle.geometry.specs.TestLaws.{and-true-each}
-use Rattle.slots.specs.Slots.{slot, isNone}
+use Rattle.slots.specs.Slots.{isNone}
 use Rattle.table.specs.Table.{nodeAt, HasSlot}
 use Rattle.slots.specs.declared.AllocIndex.{AllocIndex}
 use Rattle.lists.specs.Lists.{freeEntry}
-use Rattle.sound.specs.View.{to, linkOf, seen, Live}
+use Rattle.sound.specs.View.{seen, Live}
 use Rattle.links.specs.LinkLaws.{link-some}
 use Rattle.carves.specs.Room.{LinkHas}
 use Rattle.frees.specs.Climbs.{Level, isFree, nextAbsorbed, absorbedByPrev, isOnlyChild, givenUp, climbed}
 use Rattle.freed.specs.Climbing.{Reached, NextCalm, in-table, next-reached, prev-reached, give-reached, only-child}
-use Rattle.climbs.specs.Climbable.{Mergeable, NextReady, PrevReady, Climbing}
+use Rattle.climbs.specs.Climbable.{NextReady, PrevReady, Climbing}
 
 -- A Free slot is linked to by a link that is not none.
 free-some : (w : List ℕ) (j : AllocIndex) → isFree w j ≡ true → isNone j ≡ false

@@ -1,5 +1,4 @@
 // Deallocate: the check, the ticket, and the call on sound tables.
-use slots::AllocIndex;
 use steps::Head;
 use tickets::AllocId;
 ghost use Rattle.steps.specs.State.{state};

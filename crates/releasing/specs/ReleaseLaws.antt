@@ -1,31 +1,29 @@
 -- The laws by which freeing a slot is proved: the climb can start, and where it ends can be entered.
 -- Assumes nothing.
-use mathlib.Core.Path.{_≡_, refl}
+use mathlib.Core.Path.{_≡_}
 use mathlib.Core.Logic.{inr}
 use mathlib.Core.List.{List}
-use Prim.Native.Nat.{ℕ, _<_, _≤_}
+use Prim.Native.Nat.{ℕ, _≤_}
 use native.Mathlib.Omega.{arith}
 use lib.Dec.{eqb}
 use lib.ListN.{length}
 use Rattle.geometry.specs.Sides.{setupOf}
 use Rattle.geometry.specs.declared.Setup.{Setup}
-use Rattle.slots.specs.Slots.{slot}
 use Rattle.table.specs.Table.{nodeAt, HasSlot}
 use Rattle.table.specs.Stores.{stored, toKind}
 use Rattle.slots.specs.declared.AllocIndex.{AllocIndex}
 use Rattle.slots.specs.declared.Node.{Node}
-use Rattle.slots.specs.declared.NodeKind.the-variants.{Alloc, Free}
+use Rattle.slots.specs.declared.NodeKind.the-variants.{Free}
 use Rattle.buckets.specs.FreeLists.{Lists, lists}
 use Rattle.steps.specs.Spares.{withSpare}
 use Rattle.steps.specs.State.{State, state, listsOf}
 use Rattle.steps.specs.declared.Head.{Head}
 use Rattle.sound.specs.View.{seen}
-use Rattle.sound.specs.Sound.{Sound, sheetOf}
+use Rattle.sound.specs.Sound.{sheetOf}
 use Rattle.forest.specs.Bridge.{forest}
 use Rattle.forest.specs.Forest.{Forest, Represents}
 use Rattle.forest.specs.Tree.{treeOf}
 use Rattle.changes.specs.Pieces.{leaf-filled}
-use Rattle.lent.specs.Lent.{LentOf}
 use Rattle.entries.specs.Entries.{entered, ListsReady, Enterable}
 use Rattle.entries.specs.EntryLaws.{ready-enterable, ready-words}
 use Rattle.grants.specs.Grants.{withLists}

@@ -1,5 +1,4 @@
 // Deallocate on sound tables: mark Free, climb, push.
-use buckets::Lengths;
 use slots::AllocIndex;
 use slots::NodeKind;
 use steps::Head;

@@ -1,7 +1,7 @@
 -- `climbs::climb` meets its contract: each level is both merges, and an only child gives up to the level above. The measure is the number of
 -- levels that are left.
 -- Assumes nothing.
-use mathlib.Core.Path.{refl, sym, _∙_}
+use mathlib.Core.Path.{sym, _∙_}
 use native.Mathlib.Omega.{arith}
 use borrow.Author.Needs.{needs}
 use Rattle.climbs.specs.ClimbLaws.{climbing-own, climbing-next, climbing-prev, climbing-parent, next-climbing, level-climbing, above-climbing, climb-none, climb-ends-here, climb-goes-on}

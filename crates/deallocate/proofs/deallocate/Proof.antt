@@ -1,6 +1,7 @@
 -- `deallocate::deallocate` meets its contract: the check, then the ticket, then the call on sound tables.
 -- Assumes nothing.
 use mathlib.Core.Path.{refl}
+use native.Mathlib.Omega.{arith}
 use Rattle.steps.specs.State.{state}
 use Rattle.audit.specs.AnswerLaws.{answers-checked}
 use Rattle.lookup.specs.HeldLaws.{checked-held}
@@ -25,7 +26,7 @@ same-length-4 : tie.Need-same-length-4
 same-length-4 c = search needs
 
 returns : tie.Need-returns
-returns c = answers-checked (c .before .check .ensures) (c .if1 .taken) refl
+returns c = answers-checked (c .before .check .ensures) (λ e. omega (arith, c .if1 .taken)) refl
 
 ticket-answer-requires : tie.Need-ticket-answer-requires
 ticket-answer-requires c κs =
@@ -45,7 +46,7 @@ same-length-8 : tie.Need-same-length-8
 same-length-8 c = search needs
 
 returns-2 : tie.Need-returns-2
-returns-2 c = leaves-refused _ _ (c .before .before .before .before .check .ensures) (c .before .before .before .if1 .left) (c .before .ticket-answer .ensures) (c .if2 .taken)
+returns-2 c = leaves-refused _ _ (c .before .before .before .before .check .ensures) (c .before .before .before .if1 .left) (c .before .ticket-answer .ensures) (λ e. omega (arith, c .if2 .taken))
 
 get-index-requires : tie.Need-get-index-requires
 get-index-requires c κs = search needs
