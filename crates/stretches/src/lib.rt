@@ -42,34 +42,34 @@ pub fn reparent(words: &mut [u32], n: u32, p: AllocIndex, i: AllocIndex)
     ensures { λ _. ⌜ now (words .exit) ≡ reparented n (now (words .entry)) p i ⌝ }
 {
     let mut at = i;
-    let mut left = n;
-    while left > 0 {
+    let mut rest = n;
+    while rest > 0 {
         if slots::is_none(at) {
             return;
         }
         let node = table::node_at(words, at);
         table::set_parent(words, at, p);
         at = node.next;
-        left -= 1;
+        rest -= 1;
     }
 }
 
-// A rectangle stretched along an orientation by d,
-pub fn stretched_rect(o: Orientation, rect: Rectangle, d: u32) -> Rectangle
-    requires { ⌜ (rect .x1 + d < 2 ^ 32) × (rect .y1 + d < 2 ^ 32) ⌝ }
-    ensures { λ r. ⌜ r ≡ stretchedRect o rect d ⌝ }
+// A rectangle stretched along an orientation by a length,
+pub fn stretched_rect(o: Orientation, rect: Rectangle, by: u32) -> Rectangle
+    requires { ⌜ (rect .x1 + by < 2 ^ 32) × (rect .y1 + by < 2 ^ 32) ⌝ }
+    ensures { λ r. ⌜ r ≡ stretchedRect o rect by ⌝ }
 {
     match o {
         Orientation::Vertical => Rectangle {
             x0: rect.x0,
             y0: rect.y0,
             x1: rect.x1,
-            y1: rect.y1 + d,
+            y1: rect.y1 + by,
         },
         Orientation::Horizontal => Rectangle {
             x0: rect.x0,
             y0: rect.y0,
-            x1: rect.x1 + d,
+            x1: rect.x1 + by,
             y1: rect.y1,
         },
     }

@@ -11,10 +11,10 @@ use Rattle.stretches.proofs.reparent.Statement.{statement}
 use Rattle.stretches.proofs.reparent.Tie as tie
 
 abbrev Inv-loop : tie.InvT-loop
-Inv-loop words₀ n p at₀ left₀ words at left = (reparented left words p at ≡ reparented n words₀ p at₀) × ChainHas left words at × (length words ≡ length words₀)
+Inv-loop words₀ n p at₀ rest₀ words at rest = (reparented rest words p at ≡ reparented n words₀ p at₀) × ChainHas rest words at × (length words ≡ length words₀)
 
 abbrev μ-loop : tie.MeasureT-loop
-μ-loop words₀ n p at₀ left₀ words at left = left
+μ-loop words₀ n p at₀ rest₀ words at rest = rest
 
 loop-holds : tie.Need-loop-holds Inv-loop μ-loop
 loop-holds c = (refl, c .before .pre, refl)
@@ -34,8 +34,8 @@ node-at-requires c κs = chain-on _ _ _ (c .before .before .before .loop-test .t
 set-parent-requires : tie.Need-set-parent-requires Inv-loop μ-loop
 set-parent-requires c κs = chain-on _ _ _ (c .before .before .before .before .before .loop-test .taken) (sym (c .before .before .before .before .is-none .ensures) ∙ c .before .before .before .if1 .left) (c .before .before .before .before .before .before .loop .inv .1) .0
 
-sub-left : tie.Need-sub-left Inv-loop μ-loop
-sub-left c = omega arith
+sub-rest : tie.Need-sub-rest Inv-loop μ-loop
+sub-rest c = omega arith
 
 loop-less : tie.Need-loop-less Inv-loop μ-loop
 loop-less c = omega arith
@@ -61,7 +61,7 @@ reparent-spec =
     returns
     node-at-requires
     set-parent-requires
-    sub-left
+    sub-rest
     loop-less
     loop-again
     same-length-2
