@@ -29,10 +29,10 @@ returns : tie.Need-returns Inv-loop μ-loop
 returns c = parents-end _ _ _ _ (sym (c .before .is-none .ensures) ∙ c .if1 .taken) ∙ c .before .before .before .loop .inv .0
 
 node-at-requires : tie.Need-node-at-requires Inv-loop μ-loop
-node-at-requires c κs = chain-on _ _ _ (c .before .before .before .loop-test .taken) (sym (c .before .before .is-none .ensures) ∙ c .before .if1 .left) (c .before .before .before .before .loop .inv .1) .0
+node-at-requires c κs = chain-on _ _ _ (omega (arith, c .before .before .before .loop-test .taken)) (sym (c .before .before .is-none .ensures) ∙ c .before .if1 .left) (c .before .before .before .before .loop .inv .1) .0
 
 set-parent-requires : tie.Need-set-parent-requires Inv-loop μ-loop
-set-parent-requires c κs = chain-on _ _ _ (c .before .before .before .before .before .loop-test .taken) (sym (c .before .before .before .before .is-none .ensures) ∙ c .before .before .before .if1 .left) (c .before .before .before .before .before .before .loop .inv .1) .0
+set-parent-requires c κs = chain-on _ _ _ (omega (arith, c .before .before .before .before .before .loop-test .taken)) (sym (c .before .before .before .before .is-none .ensures) ∙ c .before .before .before .if1 .left) (c .before .before .before .before .before .before .loop .inv .1) .0
 
 sub-rest : tie.Need-sub-rest Inv-loop μ-loop
 sub-rest c = omega arith
@@ -41,13 +41,13 @@ loop-less : tie.Need-loop-less Inv-loop μ-loop
 loop-less c = omega arith
 
 loop-again : tie.Need-loop-again Inv-loop μ-loop
-loop-again c = parents-on _ _ _ _ _ _ _ _ (c .before .before .before .before .before .before .before .before .before .loop-test .taken) (sym (c .before .before .before .before .before .before .before .before .is-none .ensures) ∙ c .before .before .before .before .before .before .before .if1 .left) (c .before .before .before .before .before .node-at .ensures) (c .before .before .before .set-parent .ensures) (c .before .before .before .before .before .before .before .before .before .before .loop .inv)
+loop-again c = parents-on _ _ _ _ _ _ _ _ (omega (arith, c .before .before .before .before .before .before .before .before .before .loop-test .taken)) (sym (c .before .before .before .before .before .before .before .before .is-none .ensures) ∙ c .before .before .before .before .before .before .before .if1 .left) (c .before .before .before .before .before .node-at .ensures) (c .before .before .before .set-parent .ensures) (c .before .before .before .before .before .before .before .before .before .before .loop .inv)
 
 same-length-2 : tie.Need-same-length-2 Inv-loop μ-loop
 same-length-2 c = c .before .loop .inv .2
 
 returns-2 : tie.Need-returns-2 Inv-loop μ-loop
-returns-2 c = parents-here _ _ _ _ (c .loop-test .left) ∙ c .before .loop .inv .0
+returns-2 c = parents-here _ _ _ _ (omega (arith, c .loop-test .left)) ∙ c .before .loop .inv .0
 
 pub reparent-spec : {M : Type 1} → statement M
 reparent-spec =
