@@ -1,3 +1,4 @@
 pub mod Shapes
 pub mod Carves
 pub mod Grants
+pub mod GrantLaws
