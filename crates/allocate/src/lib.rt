@@ -1,8 +1,8 @@
 // Allocate: the check, the rounding, and the call on sound tables.
 use geometry::Size;
-use granting::Allocation;
 use rounding::Request;
 use steps::Head;
+use taking::Allocation;
 ghost use Rattle.steps.specs.State.{state};
 ghost use Rattle.audit.specs.Answers.{given};
 ghost use Rattle.allocate.specs.Allocate.{crop, AllocateCall};
@@ -23,13 +23,13 @@ pub fn allocate(
 {
     let found = audit::check(words, generations, small, medium, large, head);
     if found != 0 {
-        return granting::refusal(found, head);
+        return taking::refusal(found, head);
     }
     let setup = geometry::setup_of(head.sheet, head.options);
     let asked = rounding::request_of(setup, size);
     match asked {
-        Request::NotPositive => granting::refusal(4, head),
-        Request::TooLarge => granting::refusal(5, head),
+        Request::NotPositive => taking::refusal(4, head),
+        Request::TooLarge => taking::refusal(5, head),
         Request::Of(request) => granting::grant_request(
             words,
             generations,

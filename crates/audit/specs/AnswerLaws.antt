@@ -4,13 +4,15 @@ use mathlib.Core.Path.{_≡_, refl, ap, sym, _∙_}
 use mathlib.Core.Logic.{_↔_, _⊎_, ⊎-elim}
 use Prim.Native.Nat.{ℕ}
 use native.Mathlib.Omega.{arith}
-use borrow.Author.Tests.{eq-eqb, ne-eqb}
+use lib.Dec.{eqb}
+use borrow.Author.Tests.{eqb-true, eqb-false, eq-eqb, ne-eqb}
+use Rattle.geometry.specs.Choice.{pick-elim}
 use Rattle.steps.specs.State.{State}
 use Rattle.sound.specs.Sound.{Sound}
 use Rattle.lent.specs.Lent.{LentOf}
 use Rattle.audit.specs.Audited.{Checked}
 use Rattle.audit.specs.Exact.{check-is-exact}
-use Rattle.audit.specs.Answers.{Given, given, afterCheck, Answers}
+use Rattle.audit.specs.Answers.{Given, given, afterCheck, Answers, nothing}
 
 module _ {A : Type 0} {nothing : A} {s : State} {core : Given A} where
   -- NO OTHER OUTCOME. Two outcomes that meet the contract are the same: answer, what is handed over, head and tables.
@@ -77,3 +79,44 @@ module _ {A : Type 0} {nothing : A} {s : State} {k : ℕ} (c : Checked s k) wher
   pub answers-done : k ≡ 0 → {core o : Given A} → o ≡ core → Answers nothing s core o
   unfolding afterCheck
   answers-done z e = record { code = k; checked = c; is = rw (eq-eqb k 0 z, e) }
+
+-- Of a call that hands over nothing and that the tables' check lets pass: where it is answered j, it is refused with j, changing nothing, or
+-- leaves u for 0. That is how it goes,
+module _ {s : State} (u : State) {k j a : ℕ} (c : Checked s k) (z : k ≡ 0) (told : a ≡ j) where
+  pub leaves-refused : (a ≡ 0 → ⊥) → Answers nothing s (afterCheck nothing s (given 0 nothing u) j) (given a nothing s)
+  unfolding afterCheck
+  leaves-refused d = answers-done c z (rw (ne-eqb j 0 (rw told at d), told))
+
+  pub leaves-done : a ≡ 0 → {v : State} → v ≡ u → Answers nothing s (afterCheck nothing s (given 0 nothing u) j) (given 0 nothing v)
+  unfolding afterCheck
+  leaves-done e f = answers-done c z (rw (eq-eqb j 0 (sym told ∙ e), f))
+
+-- and what is known of it.
+module _ (s u : State) (j : ℕ) where
+  by-answer : (P : Given (Unit {0}) → Type 0) → (j ≡ 0 → P (given 0 nothing u)) → ((j ≡ 0 → ⊥) → P (given j nothing s)) → P (afterCheck nothing s (given 0 nothing u) j)
+  unfolding afterCheck
+  by-answer P done refused = pick-elim P (eqb j 0) _ _ (λ e. done (eqb-true j 0 e)) (λ e. refused (eqb-false j 0 e))
+
+  -- The number is its answer,
+  pub own-answer : afterCheck nothing s (given 0 nothing u) j .answer ≡ j
+  own-answer = by-answer (λ (g : Given (Unit {0})). g .answer ≡ j) (λ e. sym e) (λ _. refl)
+
+  module _ {o : Given (Unit {0})} (a : Answers nothing s (afterCheck nothing s (given 0 nothing u) j) o) where
+    -- where the lengths are in range and the tables sound.
+    pub answers-told : (i : ℕ) → (i ≡ 1 → ⊥) → (i ≡ 2 → ⊥) → (o .answer ≡ i) ↔ (LentOf s × Sound s × (j ≡ i))
+    answers-told i x y = rw own-answer at (answers-other a i x y)
+
+    -- A refusal changes nothing: head and every table stay as they were.
+    pub refused-changes-nothing : (o .answer ≡ 0 → ⊥) → o ≡ given (o .answer) nothing s
+    refused-changes-nothing =
+        answers-refused a (by-answer (λ (g : Given (Unit {0})). (g .answer ≡ 0 → ⊥) → g ≡ given (g .answer) nothing s) (λ _ d. absurd (d refl)) (λ _ _. refl))
+
+    -- On 0 it leaves u.
+    pub done-leaves : o .answer ≡ 0 → o ≡ given 0 nothing u
+    done-leaves z =
+        let h = answers-other a 0 (λ e. omega arith) (λ e. omega arith) .0 z in
+        answers-sound a (h .0) (h .1) ∙ by-answer (λ (g : Given (Unit {0})). g .answer ≡ 0 → g ≡ given 0 nothing u) (λ _ _. refl) (λ d e. absurd (d e)) (h .2)
+
+    -- Sound tables stay sound, and lengths in range, where u has them so.
+    pub stays-sound : (j ≡ 0 → Sound u × LentOf u) → LentOf s → Sound s → Sound (o .after) × LentOf (o .after)
+    stays-sound f L S = rw (answers-sound a L S) (by-answer (λ (g : Given (Unit {0})). Sound (g .after) × LentOf (g .after)) f (λ _. (S, L)))

@@ -25,3 +25,7 @@ pub record Answers {A : Type 0} (nothing : A) (s : State) (core o : Given A) : T
   pub code : ℕ
   pub checked : Checked s code
   pub is : o ≡ afterCheck nothing s core code
+
+-- What a call hands over that gives its answer alone.
+abbrev pub nothing : Unit {0}
+nothing = tt

@@ -18,15 +18,18 @@ use Rattle.sound.specs.Sound.{Counted, Listed}
 use Rattle.links.specs.Links.{spareWalk}
 use Rattle.links.specs.SpareLaws.{spare-walk-yes, spare-walk-no}
 use Rattle.lent.specs.Lent.{LentOf}
-use Rattle.scans.specs.Tests.{firstFrom, listedAt}
-use Rattle.scans.specs.Marks.{marksOf, ListsReady}
+use Rattle.below.specs.Below.{firstFrom}
+use Rattle.marks.specs.Marks.{listedAt, marksOf, ListsReady}
 use Rattle.audit.specs.Audited as audited
-use Rattle.audit.specs.Audited.{Rule2, lowestBad, numbersOf, entriesFound, firstsOf, hasEntry, Audited}
-use Rattle.audit.specs.Judged as judged
-use Rattle.audit.specs.Judged.{AllMarked, TreeReady, Judged}
+use Rattle.audit.specs.Audited.{Rule2, hasEntry, Audited}
+use Rattle.judged.specs.Verdicts.{lowestBad}
+use Rattle.counted.specs.Numbers.{numbersOf, entriesFound}
+use Rattle.walked.specs.Trees.{firstsOf, TreeReady}
+use Rattle.judged.specs.Judged as judged
+use Rattle.judged.specs.Judged.{AllMarked, Judged}
 use Rattle.audit.specs.EntryLaws.{marks-say-entries, entries-say-listed}
-use Rattle.audit.specs.CountLaws.{entries-cases, counted-numbers, numbers-counted, numbers-table}
-use Rattle.audit.specs.declared.Verdict.{Verdict}
+use Rattle.counted.specs.CountLaws.{entries-cases, counted-numbers, numbers-counted, numbers-table}
+use Rattle.judged.specs.declared.Verdict.{Verdict}
 
 -- Tests that agree on the first n places have the same lowest bad one.
 first-same : (p q : ℕ → Bool) (from left : ℕ) → ((i : ℕ) → from ≤ i → i < from + left → p i ≡ q i) → firstFrom p from left ≡ firstFrom q from left

@@ -2,26 +2,23 @@
 -- place that breaks it, 0 where no single place does. Each verdict says that the rules before it hold and that it doesn't.
 -- Assumes nothing.
 use mathlib.Core.Path.{_≡_}
-use mathlib.Core.Bool.{Bool, _&&_, _||_, not}
+use mathlib.Core.Bool.{Bool, _||_, not}
 use mathlib.Core.Logic.{_↔_}
-use mathlib.Core.List.{List}
 use Prim.Native.Nat.{ℕ}
-use lib.ListN.{length, take, replicate}
-use lib.Dec.{eqb, ltb, leb}
 use Rattle.geometry.specs.Choice.{pick}
-use Rattle.geometry.specs.Sides.{validSetup}
 use Rattle.slots.specs.Slots.{slot}
 use Rattle.table.specs.Table.{nodeAt}
-use Rattle.lists.specs.Lists.{Bag, occurs, freeEntry}
-use Rattle.buckets.specs.FreeLists.{Lists, listOf}
+use Rattle.lists.specs.Lists.{occurs, freeEntry}
+use Rattle.buckets.specs.FreeLists.{listOf}
 use Rattle.steps.specs.State.{State, listsOf}
-use Rattle.steps.specs.declared.Head.{Head}
 use Rattle.sound.specs.View.{linkOf, seen}
 use Rattle.sound.specs.Sound.{Counted, SpareChain, Linked, Merged, Placed, Listed, LastTrue, Sound, ownBucket}
-use Rattle.links.specs.Links.{firstsTo, linksAt, mergedAt}
+use Rattle.links.specs.Links.{linksAt, mergedAt}
 use Rattle.lent.specs.Lent.{LentOf}
-use Rattle.scans.specs.Tests.{firstFrom, entryBelow, filledAt, notLastAt}
-use Rattle.audit.specs.declared.Verdict.{Verdict}
+use Rattle.scans.specs.Tests.{filledAt, notLastAt}
+use Rattle.judged.specs.Verdicts.{lowestBad}
+use Rattle.counted.specs.Numbers.{entriesFound, numbersOf}
+use Rattle.walked.specs.Trees.{firstsOf}
 
 -- RULES 1 TO 7 of a state, by number.
 abbrev pub Rule2 : State → Type 0
@@ -39,42 +36,9 @@ Rule5 s = Placed (seen (s .words)) (s .head .count) (s .head .root .0) (s .head 
 abbrev pub Rule7 : State → Type 0
 Rule7 s = LastTrue (seen (s .words)) (s .head .count)
 
--- THE PLACES. The lowest of the first n at which a test fails, or 0 where none does.
-unfoldable pub lowestBad : (ℕ → Bool) → ℕ → ℕ
-lowestBad p n = pick (ltb (firstFrom p 0 n) n) (firstFrom p 0 n) 0
-
--- Rule 1 without its last words: count, setup, lengths and root are in order.
-unfoldable pub numbersHold : ℕ → ℕ → ℕ → ℕ → Head → Bool
-numbersHold total small medium large h =
-    not (eqb (h .count) 0) &&
-    (leb (h .count) total &&
-    (leb (h .lengths .small) small &&
-    (leb (h .lengths .medium) medium &&
-    (leb (h .lengths .large) large &&
-    (validSetup (h .sheet) (h .options) && ltb (h .root .0) (h .count))))))
-
-abbrev pub verdict : ℕ → ℕ → Verdict
-verdict r k = record { rule = r; place = k }
-
--- Rule 1 broken at the lowest entry of a list that isn't below n; another verdict where there is none.
-unfoldable pub entryFound : Bag → ℕ → Verdict → Verdict
-entryFound b n other =
-    pick (ltb (firstFrom (entryBelow (b .table) n) 0 (b .len)) (b .len)) (verdict 1 (firstFrom (entryBelow (b .table) n) 0 (b .len))) other
-
--- The lists are looked at in order.
-unfoldable pub entriesFound : Lists → ℕ → Verdict
-entriesFound l n = entryFound (l .small) n (entryFound (l .medium) n (entryFound (l .large) n (verdict 0 0)))
-
-abbrev pub numbersOf : State → Bool
-numbersOf s = numbersHold (length (s .generations)) (length (s .small)) (length (s .medium)) (length (s .large)) (s .head)
-
 -- The place in the first list that has an entry not below n, where the numbers are in order.
 abbrev pub entryPlace : State → ℕ
 entryPlace s = pick (numbersOf s) (entriesFound (listsOf s) (s .head .count) .place) 0
-
--- The table of first children, none where there is none.
-unfoldable pub firstsOf : List ℕ → ℕ → List ℕ
-firstsOf w n = take n (firstsTo w n n (replicate 4096 4294967295))
 
 -- A Free slot has an entry in its own bucket's list.
 unfoldable pub hasEntry : State → ℕ → Bool

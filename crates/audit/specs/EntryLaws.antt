@@ -13,9 +13,8 @@ use Rattle.steps.specs.State.{State, listsOf}
 use Rattle.sound.specs.View.{seen}
 use Rattle.sound.specs.Sound.{HasEntry, ownBucket, Listed}
 use Rattle.links.specs.TestLaws.{Says, where-says, kind-says}
-use Rattle.scans.specs.Tests.{listedAt}
-use Rattle.scans.specs.Marks.{marksOf, ListsReady}
-use Rattle.scans.specs.MarkLaws.{marks-say-occurs, occurs-says}
+use Rattle.marks.specs.Marks.{listedAt, marksOf, ListsReady}
+use Rattle.marks.specs.MarkLaws.{marks-say-occurs, occurs-says}
 use Rattle.audit.specs.Audited.{hasEntry}
 
 module _ (s : State) where

@@ -12,11 +12,12 @@ use Rattle.geometry.specs.TestLaws.{same-or-not}
 use Rattle.steps.specs.State.{State}
 use Rattle.sound.specs.Sound.{Counted, Listed, Sound}
 use Rattle.links.specs.Links.{linksAt, mergedAt}
-use Rattle.lent.specs.Lent.{lent}
+use Rattle.lent.specs.Lent.{lent, LentOf}
 use Rattle.lent.specs.LentLaws.{yes-lent}
-use Rattle.lent.specs.Lent.{LentOf}
 use Rattle.scans.specs.Tests.{filledAt, notLastAt}
-use Rattle.audit.specs.Audited.{Rule2, Rule3, Rule4, Rule5, Rule7, lowestBad, entryPlace, firstsOf, hasEntry, Audited, sound, rule1, rule2, rule3, rule4, rule5, rule6, rule7, Checked}
+use Rattle.audit.specs.Audited.{Rule2, Rule3, Rule4, Rule5, Rule7, entryPlace, hasEntry, Audited, sound, rule1, rule2, rule3, rule4, rule5, rule6, rule7, Checked}
+use Rattle.judged.specs.Verdicts.{lowestBad}
+use Rattle.walked.specs.Trees.{firstsOf}
 
 -- Rule i fails and the verdict is i, or it holds and the verdict is as the rules after it say.
 data Step (P : Type 0) (i r : ℕ) (A : Type 0) : Type 0 where

@@ -1,10 +1,6 @@
-pub mod Audited
-pub mod Judged
-pub mod EntryLaws
-pub mod JudgeLaws
-pub mod TreeLaws
-pub mod CountLaws
-pub mod AuditLaws
-pub mod Exact
-pub mod Answers
 pub mod AnswerLaws
+pub mod Answers
+pub mod AuditLaws
+pub mod Audited
+pub mod EntryLaws
+pub mod Exact

@@ -2,6 +2,7 @@
 use cuts::Cut;
 use geometry::Orientation;
 use geometry::Rectangle;
+use grants::CutSlots;
 use grants::Shape;
 use slots::AllocIndex;
 use slots::Node;
@@ -9,44 +10,16 @@ use slots::NodeKind;
 use steps::Head;
 use steps::Taken;
 ghost use mathlib.Core.Path.{_≡_};
-ghost use mathlib.Core.List.{[]};
 ghost use Rattle.table.specs.Table.{nodeAt, HasSlot};
 ghost use Rattle.grants.specs.Shapes.{slotsNeeded};
-ghost use Rattle.grants.specs.Carves.{news, newsOf, turned, answeredBy, beside, pairUnder, carved};
-ghost use Rattle.carves.specs.Room.{two, twoNodes, CanTake, LinkHas, Carvable};
+ghost use Rattle.grants.specs.Carves.{news, newsOf, turned, beside, carved};
+ghost use Rattle.pairs.specs.Pairs.{CanTake, LinkHas};
+ghost use Rattle.carves.specs.Room.{Carvable};
 
-// The slots of an allocate, none where there is none, and the head after they were taken.
+// The slots of a cut, and the head after they were taken.
 pub struct NewSlots {
-    pub split: AllocIndex,
-    pub inner: AllocIndex,
-    pub alloc: AllocIndex,
-    pub left: AllocIndex,
+    pub slots: CutSlots,
     pub head: Head,
-}
-
-// Two slots taken, and the head after it.
-struct Two {
-    pub first: AllocIndex,
-    pub second: AllocIndex,
-    pub head: Head,
-}
-
-// Takes two new slots, one after the other.
-fn take_two(words: &[u32], generations: &mut [u8], head: Head) -> Two
-    requires { ⌜ CanTake 2 (now words) (now generations) head ⌝ }
-    ensures { λ r. ⌜ two (r .first) (r .second) (r .head) (now (generations .exit)) ≡ twoNodes (now (words .entry)) (now (generations .entry)) head ⌝ }
-{
-    let a = steps::new_node(words, generations, head);
-    let first = a.slot;
-    let between = a.head;
-    let b = steps::new_node(words, generations, between);
-    let second = b.slot;
-    let after = b.head;
-    Two {
-        first: first,
-        second: second,
-        head: after,
-    }
 }
 
 // Takes the new slots of a shape in creation order: split, inner Container, Alloc, leftover.
@@ -58,27 +31,35 @@ pub fn take_slots(
     i: AllocIndex,
 ) -> NewSlots
     requires { ⌜ CanTake (slotsNeeded shape) (now words) (now generations) head ⌝ }
-    ensures { λ r. ⌜ news (r .split) (r .inner) (r .alloc) (r .left) (r .head) (now (generations .exit))
+    ensures { λ r. ⌜ news (r .slots) (r .head) (now (generations .exit))
         ≡ newsOf shape (now (words .entry)) (now (generations .entry)) head i ⌝ }
 {
     let none = AllocIndex(slots::NONE);
     match shape {
-        Shape::Exact => NewSlots {
-            split: none,
-            inner: none,
-            alloc: i,
-            left: none,
-            head: head,
-        },
+        Shape::Exact => {
+            let new = CutSlots {
+                split: none,
+                inner: none,
+                alloc: i,
+                left: none,
+            };
+            NewSlots {
+                slots: new,
+                head: head,
+            }
+        }
         Shape::Along => {
             let s = steps::new_node(words, generations, head);
             let split = s.slot;
             let after = s.head;
-            NewSlots {
+            let new = CutSlots {
                 split: split,
                 inner: none,
                 alloc: i,
                 left: none,
+            };
+            NewSlots {
+                slots: new,
                 head: after,
             }
         }
@@ -86,45 +67,54 @@ pub fn take_slots(
             let s = steps::new_node(words, generations, head);
             let split = s.slot;
             let between = s.head;
-            let t = take_two(words, generations, between);
+            let t = pairs::take_two(words, generations, between);
             let alloc = t.first;
             let left = t.second;
             let after = t.head;
-            NewSlots {
+            let new = CutSlots {
                 split: split,
                 inner: none,
                 alloc: alloc,
                 left: left,
+            };
+            NewSlots {
+                slots: new,
                 head: after,
             }
         }
         Shape::Across => {
-            let t = take_two(words, generations, head);
+            let t = pairs::take_two(words, generations, head);
             let split = t.first;
             let alloc = t.second;
             let after = t.head;
-            NewSlots {
+            let new = CutSlots {
                 split: split,
                 inner: none,
                 alloc: alloc,
                 left: none,
+            };
+            NewSlots {
+                slots: new,
                 head: after,
             }
         }
         Shape::AcrossLeft => {
-            let t = take_two(words, generations, head);
+            let t = pairs::take_two(words, generations, head);
             let split = t.first;
             let inner = t.second;
             let between = t.head;
-            let u = take_two(words, generations, between);
+            let u = pairs::take_two(words, generations, between);
             let alloc = u.first;
             let left = u.second;
             let after = u.head;
-            NewSlots {
+            let new = CutSlots {
                 split: split,
                 inner: inner,
                 alloc: alloc,
                 left: left,
+            };
+            NewSlots {
+                slots: new,
                 head: after,
             }
         }
@@ -138,17 +128,6 @@ fn turn(words: &mut [u32], i: AllocIndex, rect: Rectangle)
 {
     table::set_kind(words, i, NodeKind::Alloc);
     table::set_rect(words, i, rect);
-}
-
-// A link to j, unless it is none, is answered by j's prev.
-pub fn answer_link(words: &mut [u32], j: AllocIndex, s: AllocIndex)
-    requires { ⌜ LinkHas (now words) j ⌝ }
-    ensures { λ _. ⌜ now (words .exit) ≡ answeredBy (now (words .entry)) j s ⌝ }
-{
-    if slots::is_none(j) {
-        return;
-    }
-    table::set_prev(words, j, s);
 }
 
 // Split becomes the chosen slot's next sibling.
@@ -170,42 +149,7 @@ fn split_beside(words: &mut [u32], i: AllocIndex, s: AllocIndex, rect: Rectangle
     };
     table::put_node(words, s, split);
     table::set_next(words, i, s);
-    answer_link(words, next, s);
-}
-
-// Two new slots under p: a, and then b, which is Free.
-fn put_pair(
-    words: &mut [u32],
-    p: AllocIndex,
-    o: Orientation,
-    a: AllocIndex,
-    kind: NodeKind,
-    rect: Rectangle,
-    b: AllocIndex,
-    other: Rectangle,
-)
-    requires { ⌜ HasSlot (now words) a × HasSlot (now words) b ⌝ }
-    ensures { λ _. ⌜ now (words .exit) ≡ pairUnder (now (words .entry)) p o a kind rect b other ⌝ }
-{
-    let none = AllocIndex(slots::NONE);
-    let first = Node {
-        parent: p,
-        next: b,
-        prev: none,
-        kind: kind,
-        orientation: o,
-        rect: rect,
-    };
-    let last = Node {
-        parent: p,
-        next: none,
-        prev: a,
-        kind: NodeKind::Free,
-        orientation: o,
-        rect: other,
-    };
-    table::put_node(words, a, first);
-    table::put_node(words, b, last);
+    pairs::answer_link(words, next, s);
 }
 
 // Writes the slots of a cut: slot i is chosen, and the request lies at rect.
@@ -213,12 +157,12 @@ pub fn carve(
     shape: Shape,
     words: &mut [u32],
     i: AllocIndex,
-    new: NewSlots,
+    new: CutSlots,
     rect: Rectangle,
     cut: Cut,
 )
-    requires { ⌜ Carvable shape (now words) i (new .split) (new .inner) (new .alloc) (new .left) ⌝ }
-    ensures { λ _. ⌜ now (words .exit) ≡ carved shape (now (words .entry)) i (news (new .split) (new .inner) (new .alloc) (new .left) (new .head) []) rect cut ⌝ }
+    requires { ⌜ Carvable shape (now words) i new ⌝ }
+    ensures { λ _. ⌜ now (words .exit) ≡ carved shape (now (words .entry)) i new rect cut ⌝ }
 {
     let node = table::node_at(words, i);
     let o = node.orientation;
@@ -240,7 +184,7 @@ pub fn carve(
         Shape::AlongLeft => {
             split_beside(words, i, s, split);
             table::set_kind(words, i, NodeKind::Container);
-            put_pair(
+            pairs::put_pair(
                 words,
                 i,
                 over,
@@ -253,7 +197,7 @@ pub fn carve(
         }
         Shape::Across => {
             table::set_kind(words, i, NodeKind::Container);
-            put_pair(
+            pairs::put_pair(
                 words,
                 i,
                 over,
@@ -272,7 +216,7 @@ pub fn carve(
                 x1: 0,
                 y1: 0,
             };
-            put_pair(
+            pairs::put_pair(
                 words,
                 i,
                 over,
@@ -282,7 +226,7 @@ pub fn carve(
                 new.split,
                 split,
             );
-            put_pair(
+            pairs::put_pair(
                 words,
                 new.inner,
                 o,

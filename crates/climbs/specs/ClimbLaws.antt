@@ -13,10 +13,11 @@ use Rattle.slots.specs.declared.AllocIndex.{AllocIndex}
 use Rattle.lists.specs.Lists.{freeEntry}
 use Rattle.sound.specs.View.{seen, Live}
 use Rattle.links.specs.LinkLaws.{link-some}
-use Rattle.carves.specs.Room.{LinkHas}
+use Rattle.pairs.specs.Pairs.{LinkHas}
 use Rattle.frees.specs.Climbs.{Level, isFree, nextAbsorbed, absorbedByPrev, isOnlyChild, givenUp, climbed}
 use Rattle.freed.specs.Climbing.{Reached, NextCalm, in-table, next-reached, prev-reached, give-reached, only-child}
-use Rattle.climbs.specs.Climbable.{NextReady, PrevReady, Climbing}
+use Rattle.absorbing.specs.Absorbable.{NextReady, PrevReady}
+use Rattle.climbs.specs.Climbable.{Climbing}
 
 -- A Free slot is linked to by a link that is not none.
 free-some : (w : List ℕ) (j : AllocIndex) → isFree w j ≡ true → isNone j ≡ false

@@ -1,2 +1,2 @@
-pub mod Climbable
 pub mod ClimbLaws
+pub mod Climbable

@@ -82,34 +82,21 @@ pub fn generation(line: &[u32; 128], generations: &mut [u8; 64], slots: usize) -
     true
 }
 
-// An entry of one list's table.
-fn put_entry(list: &mut [u32; 128], entries: usize, at: usize, value: u32) -> bool {
+// 33 bucket place value
+pub fn entry(line: &[u32; 128], lists: &mut [[u32; 128]; 3], entries: usize) -> bool {
+    let bucket = size(line[1]);
+    let at = size(line[2]);
+    if bucket >= 3 {
+        return false;
+    }
     if at >= 128 {
         return false;
     }
     if at >= entries {
         return false;
     }
-    list[at] = value;
+    lists[bucket][at] = line[3];
     true
-}
-
-// 33 bucket place value
-pub fn entry(
-    line: &[u32; 128],
-    small: &mut [u32; 128],
-    medium: &mut [u32; 128],
-    large: &mut [u32; 128],
-    entries: usize,
-) -> bool {
-    let at = size(line[2]);
-    let value = line[3];
-    match line[1] {
-        0 => put_entry(small, entries, at, value),
-        1 => put_entry(medium, entries, at, value),
-        2 => put_entry(large, entries, at, value),
-        _ => false,
-    }
 }
 
 fn with_width(size: Size, to: i32) -> Size {

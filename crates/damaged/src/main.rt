@@ -42,15 +42,12 @@ fn begin(
     line: &[u32; 128],
     words: &mut [u32; 512],
     generations: &mut [u8; 64],
-    small: &mut [u32; 128],
-    medium: &mut [u32; 128],
-    large: &mut [u32; 128],
+    lists: &mut [[u32; 128]; 3],
 ) -> Kept {
     *words = [0; 512];
     *generations = [0; 64];
-    *small = [0; 128];
-    *medium = [0; 128];
-    *large = [0; 128];
+    let list = [0; 128];
+    *lists = [list; 3];
     edits::begun(line[1], line[2])
 }
 
@@ -59,15 +56,13 @@ fn edit(
     line: &[u32; 128],
     words: &mut [u32; 512],
     generations: &mut [u8; 64],
-    small: &mut [u32; 128],
-    medium: &mut [u32; 128],
-    large: &mut [u32; 128],
+    lists: &mut [[u32; 128]; 3],
     kept: Kept,
 ) -> bool {
     match line[0] {
         31 => edits::word(line, words, kept.slots),
         32 => edits::generation(line, generations, kept.slots),
-        _ => edits::entry(line, small, medium, large, kept.entries),
+        _ => edits::entry(line, lists, kept.entries),
     }
 }
 
@@ -155,9 +150,7 @@ fn check_first(
 fn check_kept(
     words: &[u32; 512],
     generations: &[u8; 64],
-    small: &[u32; 128],
-    medium: &[u32; 128],
-    large: &[u32; 128],
+    lists: &[[u32; 128]; 3],
     kept: Kept,
 ) -> Checked {
     let slots = kept.slots;
@@ -172,9 +165,9 @@ fn check_kept(
     check_first(
         words,
         generations,
-        small,
-        medium,
-        large,
+        &lists[0],
+        &lists[1],
+        &lists[2],
         slots,
         entries,
         head,
@@ -199,9 +192,7 @@ fn take_line(
     line: &[u32; 128],
     words: &mut [u32; 512],
     generations: &mut [u8; 64],
-    small: &mut [u32; 128],
-    medium: &mut [u32; 128],
-    large: &mut [u32; 128],
+    lists: &mut [[u32; 128]; 3],
     rules: &mut [u64; 8],
     run: Run,
 ) -> Run {
@@ -209,19 +200,19 @@ fn take_line(
     let tally = run.tally;
     match line[0] {
         30 => Run {
-            kept: begin(line, words, generations, small, medium, large),
+            kept: begin(line, words, generations, lists),
             tally: tally,
         },
         34 => set_field(line, run),
         35 => {
-            let checked = check_kept(words, generations, small, medium, large, kept);
+            let checked = check_kept(words, generations, lists, kept);
             Run {
                 kept: kept,
                 tally: take_verdict(line, rules, tally, checked),
             }
         }
         _ => {
-            let made = edit(line, words, generations, small, medium, large, kept);
+            let made = edit(line, words, generations, lists, kept);
             Run {
                 kept: kept,
                 tally: tally::with_edit(tally, made),
@@ -236,9 +227,7 @@ fn count_line(
     read: Line,
     words: &mut [u32; 512],
     generations: &mut [u8; 64],
-    small: &mut [u32; 128],
-    medium: &mut [u32; 128],
-    large: &mut [u32; 128],
+    lists: &mut [[u32; 128]; 3],
     rules: &mut [u64; 8],
     run: Run,
 ) -> Run {
@@ -249,7 +238,7 @@ fn count_line(
     let mut next = run;
     next.tally = tally::with_line(tally);
     if is_in_form(line, read) {
-        return take_line(line, words, generations, small, medium, large, rules, next);
+        return take_line(line, words, generations, lists, rules, next);
     }
     let counted = next.tally;
     next.tally = tally::with_fault(counted);
@@ -267,9 +256,7 @@ fn take_next(
     buffer: &mut [u8; 65536],
     words: &mut [u32; 512],
     generations: &mut [u8; 64],
-    small: &mut [u32; 128],
-    medium: &mut [u32; 128],
-    large: &mut [u32; 128],
+    lists: &mut [[u32; 128]; 3],
     rules: &mut [u64; 8],
     pass: Pass,
 ) -> Pass
@@ -281,17 +268,7 @@ fn take_next(
     let after = reading::next_line(line, buffer, before);
     let read = after.line;
     Pass {
-        run: count_line(
-            line,
-            read,
-            words,
-            generations,
-            small,
-            medium,
-            large,
-            rules,
-            run,
-        ),
+        run: count_line(line, read, words, generations, lists, rules, run),
         reading: after,
     }
 }
@@ -302,9 +279,8 @@ fn read_all(rules: &mut [u64; 8]) -> Tally {
     let mut buffer = io::large_buffer();
     let mut words = [0u32; 512];
     let mut generations = [0u8; 64];
-    let mut small = [0u32; 128];
-    let mut medium = [0u32; 128];
-    let mut large = [0u32; 128];
+    let list = [0u32; 128];
+    let mut lists = [list; 3];
     let mut pass = Pass {
         run: Run {
             kept: edits::begun(0, 0),
@@ -319,9 +295,7 @@ fn read_all(rules: &mut [u64; 8]) -> Tally {
             &mut buffer,
             &mut words,
             &mut generations,
-            &mut small,
-            &mut medium,
-            &mut large,
+            &mut lists,
             rules,
             pass,
         );

@@ -3,13 +3,9 @@
 use Rattle.tickets.specs.Tickets.{slotOf}
 use Rattle.tickets.specs.declared.AllocId.{AllocId}
 use Rattle.steps.specs.State.{State}
-use Rattle.audit.specs.Answers.{Given, given, afterCheck, Answers}
-use Rattle.lookup.specs.Lookup.{ticketAnswer}
+use Rattle.audit.specs.Answers.{Given, nothing, given, afterCheck, Answers}
+use Rattle.live.specs.Live.{ticketAnswer}
 use Rattle.frees.specs.Frees.{released}
-
--- What it hands over.
-abbrev pub nothing : Unit {0}
-nothing = tt
 
 -- On sound tables: 8, 9 or 10 where the ticket gets it, changing nothing, else its slot is freed.
 abbrev pub deallocated : State → AllocId → Given (Unit {0})

@@ -3,21 +3,20 @@
 use mathlib.Core.Path.{_≡_, sym, _∙_}
 use Prim.Native.Nat.{ℕ}
 use native.Mathlib.Omega.{arith}
-use borrow.Author.Tests.{eq-eqb, ne-eqb}
 use Rattle.slots.specs.declared.AllocIndex.{AllocIndex}
 use Rattle.tickets.specs.Tickets.{slotOf}
 use Rattle.tickets.specs.declared.AllocId.{AllocId}
 use Rattle.steps.specs.State.{State}
 use Rattle.sound.specs.LiveTickets.{LiveTicket}
-use Rattle.audit.specs.Answers.{given, afterCheck}
+use Rattle.audit.specs.Answers.{nothing, given}
 use Rattle.audit.specs.Audited.{Checked}
-use Rattle.audit.specs.AnswerLaws.{answers-done}
-use Rattle.lookup.specs.Lookup.{ticketAnswer}
-use Rattle.lookup.specs.TicketLaws.{ticket-cases}
+use Rattle.audit.specs.AnswerLaws.{leaves-done}
+use Rattle.live.specs.Live.{ticketAnswer}
+use Rattle.live.specs.TicketLaws.{ticket-cases}
 use Rattle.frees.specs.Frees.{released}
 use Rattle.freed.specs.Many.{alloc-seen}
 use Rattle.releasing.specs.Releasable.{Releasable}
-use Rattle.deallocate.specs.Deallocate.{nothing, DeallocateCall}
+use Rattle.deallocate.specs.Deallocate.{DeallocateCall}
 
 -- A ticket that is answered 0 is live.
 pub answered-live : (s : State) (t : AllocId) → ticketAnswer (s .words) (s .generations) (s .head .count) t ≡ 0 → LiveTicket s t
@@ -26,13 +25,8 @@ answered-live s t =
     (λ _ _ _ e. absurd (omega arith)) (λ b p k _. record { below = b; present = p; alloc = k })
 
 module _ (s : State) (t : AllocId) {k a : ℕ} (c : Checked s k) (z : k ≡ 0) (told : a ≡ ticketAnswer (s .words) (s .generations) (s .head .count) t) where
-  -- The ticket is refused,
-  pub leaves-refused : (a ≡ 0 → ⊥) → DeallocateCall s t (given a nothing s)
-  unfolding afterCheck
-  leaves-refused d = answers-done c z (rw (ne-eqb _ 0 (rw told at d)) (rw told))
-
   module _ (live : a ≡ 0) {i : AllocIndex} (is : i ≡ slotOf t) where
-    -- or its slot can be freed,
+    -- The ticket's slot can be freed,
     pub live-releasable : Releasable (s .head) (s .words) (s .small) (s .medium) (s .large) i
     live-releasable =
         let h = c .gives-0 .0 z in
@@ -41,5 +35,4 @@ module _ (s : State) (t : AllocId) {k a : ℕ} (c : Checked s k) (z : k ≡ 0) (
 
     -- and is.
     pub leaves-freed : {u : State} → u ≡ released s i → DeallocateCall s t (given 0 nothing u)
-    unfolding afterCheck
-    leaves-freed e = answers-done c z (rw (eq-eqb _ 0 (sym told ∙ live), e, is))
+    leaves-freed e = leaves-done (released s (slotOf t)) c z told live (rw (← is) e)

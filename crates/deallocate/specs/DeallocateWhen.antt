@@ -1,14 +1,12 @@
 -- WHEN DEALLOCATE ANSWERS WHAT, and what holds after it: of any outcome o that its contract allows.
 -- Assumes nothing.
-use mathlib.Core.Path.{_≡_, refl, sym, _∙_}
+use mathlib.Core.Path.{_≡_, refl}
 use mathlib.Core.Bool.{Bool, true, false}
 use mathlib.Core.Logic.{_↔_}
 use mathlib.Core.List.{List, [], _∷_}
 use Prim.Native.Nat.{ℕ, _≤_, _<_}
-use native.Mathlib.Omega.{arith}
 use lib.ListN.{getD}
 use lib.Dec.{eqb}
-use borrow.Author.Tests.{eqb-true}
 use Rattle.geometry.specs.Choice.{pick}
 use Rattle.geometry.specs.Rectangles.{noRect}
 use Rattle.geometry.specs.declared.Rectangle.{Rectangle}
@@ -20,15 +18,16 @@ use Rattle.steps.specs.State.{State}
 use Rattle.sound.specs.Sound.{Sound}
 use Rattle.sound.specs.LiveTickets.{LiveTicket}
 use Rattle.lent.specs.Lent.{LentOf}
-use Rattle.audit.specs.Answers.{Given, given, afterCheck}
-use Rattle.audit.specs.AnswerLaws.{answers-once, answers-other, answers-sound, answers-refused}
-use Rattle.lookup.specs.Lookup.{ticketAnswer, lookup, IndexCall}
-use Rattle.lookup.specs.TicketLaws.{ticket-cases}
+use Rattle.audit.specs.Answers.{Given, nothing, given, afterCheck}
+use Rattle.audit.specs.AnswerLaws.{answers-once, own-answer, refused-changes-nothing, done-leaves, stays-sound}
+use Rattle.live.specs.Live.{ticketAnswer}
+use Rattle.lookup.specs.Lookup.{lookup, IndexCall}
 use Rattle.lookup.specs.LookupWhen.{index-gives-1, index-gives-2, index-gives-8, index-gives-9, index-gives-10, index-gives-0}
 use Rattle.frees.specs.Frees.{released}
 use Rattle.freed.specs.Terms.{FreesOne, Among, Tickets, releasedEach, SameSlots, OneFree}
 use Rattle.freed.specs.Promises.{release-keeps-sound, release-frees-one, order-is-free, all-freed-leaves-one}
-use Rattle.deallocate.specs.Deallocate.{nothing, deallocated, DeallocateCall}
+use Rattle.deallocate.specs.Deallocate.{deallocated, DeallocateCall}
+use Rattle.deallocate.specs.DeallocateLaws.{answered-live}
 
 -- No other outcome meets the contract.
 pub deallocate-once : (s : State) (t : AllocId) {o p : Given (Unit {0})} → DeallocateCall s t o → DeallocateCall s t p → o ≡ p
@@ -43,25 +42,9 @@ same-answer {A} {B} x y s f g k e = go (eqb k 0)
     go true = e
     go false = refl
 
--- The ticket's number is the answer.
-own-answer : (s u : State) (k : ℕ) → afterCheck nothing s (given 0 nothing u) k .answer ≡ k
-unfolding afterCheck
-own-answer s u k = go (eqb k 0) refl
-  where
-    go : (b : Bool) → eqb k 0 ≡ b → pick b (given 0 nothing u) (given k nothing s) .answer ≡ k
-    go true e = sym (eqb-true k 0 e)
-    go false e = refl
-
 module _ (s : State) (t : AllocId) where
   abbrev told : ℕ
   told = ticketAnswer (s .words) (s .generations) (s .head .count) t
-
-  -- On sound tables a live ticket is freed, and another changes nothing.
-  by-ticket : (P : Given (Unit {0}) → Type 0) → (LiveTicket s t → P (given 0 nothing (released s (slotOf t)))) → ((k : ℕ) → (k ≡ 0 → ⊥) → P (given k nothing s)) → P (deallocated s t)
-  unfolding afterCheck
-  by-ticket P live refused =
-      ticket-cases (s .words) (s .generations) (s .head .count) t (λ a _. P (afterCheck nothing s (given 0 nothing (released s (slotOf t))) a)) (λ _. refused 8 (λ e. omega arith))
-      (λ _ _. refused 9 (λ e. omega arith)) (λ _ _ _. refused 10 (λ e. omega arith)) (λ b p k. live (record { below = b; present = p; alloc = k }))
 
   module _ {o : Given (Unit {0})} (call : DeallocateCall s t o) where
     -- A ticket gets the number that it would get of the lookup.
@@ -100,21 +83,15 @@ module _ (s : State) (t : AllocId) where
 
     -- A refusal changes nothing: head and every table stay as they were.
     pub deallocate-refused : (o .answer ≡ 0 → ⊥) → o ≡ given (o .answer) nothing s
-    deallocate-refused =
-        answers-refused call (by-ticket (λ (g : Given (Unit {0})). (g .answer ≡ 0 → ⊥) → g ≡ given (g .answer) nothing s) (λ _ d. absurd (d refl)) (λ _ _ _. refl))
+    deallocate-refused = refused-changes-nothing s (released s (slotOf t)) told call
 
     -- A live ticket's slot is freed.
     pub deallocate-frees : o .answer ≡ 0 → o ≡ given 0 nothing (released s (slotOf t))
-    deallocate-frees z =
-        let h = answers-other call 0 (λ e. omega arith) (λ e. omega arith) .0 z in
-        answers-sound call (h .0) (h .1)
-        ∙ by-ticket (λ (g : Given (Unit {0})). g .answer ≡ 0 → g ≡ given 0 nothing (released s (slotOf t))) (λ _ _. refl) (λ k d e. absurd (d e)) (h .2)
+    deallocate-frees = done-leaves s (released s (slotOf t)) told call
 
     -- SOUND tables stay sound, and lengths in range, on every answer.
     pub deallocate-keeps-sound : LentOf s → Sound s → Sound (o .after) × LentOf (o .after)
-    deallocate-keeps-sound L S =
-        rw (answers-sound call L S)
-        (by-ticket (λ (g : Given (Unit {0})). Sound (g .after) × LentOf (g .after)) (λ v. release-keeps-sound s L S t v) (λ _ _. (S, L)))
+    deallocate-keeps-sound L S = stays-sound s (released s (slotOf t)) told call (λ e. release-keeps-sound s L S t (answered-live s t e)) L S
 
     -- ONE IS FREED. On 0 the ticket is not live any more; every other live ticket stays live with its rectangle, and none becomes live; sheet,
     -- options, root, slot count and generations stay.

@@ -111,7 +111,7 @@ module _ (s : State) (e : Extent) (L : LentOf s) (S : Sound s) where
   -- A cut is carried out as Given says, and a ticket is given out.
   module _ (x : 0 < e .width) (y : 0 < e .height) (i : AllocIndex) (b : Bucket) (k : ℕ) (c : ChoosesAt s e i b k) (enough : neededAt s e i ≤ spareAt s) where
     pub cut-leaves : let n = newsOf (shapeAt s e i) (s .words) (s .generations) (s .head) i in
-        Given s (i .0) (n .alloc .0) (newOnes (shapeAt s e i) n) (piecesOf (shapeAt s e i) n (cutAt s e i)) (cutFrom s e i b k)
+        Given s (i .0) (n .slots .alloc .0) (newOnes (shapeAt s e i) (n .slots)) (piecesOf (shapeAt s e i) (n .slots) (cutAt s e i)) (cutFrom s e i b k)
     cut-leaves =
         let p = chosen-picked i b k c in
         cut-given s L S e (searchOf s e .lists) searched-stocked i b k p (shapeAt s e i) (cornerAt s e i) (cutAt s e i) (omega arith, omega arith)

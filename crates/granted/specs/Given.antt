@@ -24,9 +24,10 @@ use Rattle.sound.specs.Sound.{Sound}
 use Rattle.forest.specs.Pigeon.{In}
 use Rattle.changes.specs.Swaps.{Taken}
 use Rattle.lent.specs.Lent.{LentOf}
-use Rattle.grants.specs.Carves.{News, newsOf, carved}
+use Rattle.grants.specs.Carves.{newsOf, carved}
 use Rattle.grants.specs.Grants.{Grant, taken}
 use Rattle.grants.specs.Shapes.{slotsNeeded}
+use Rattle.grants.specs.declared.CutSlots.{CutSlots}
 use Rattle.grants.specs.declared.Shape.{Shape}
 use Rattle.grants.specs.declared.Shape.the-variants.{Exact, Along, AlongLeft, Across, AcrossLeft}
 use Rattle.granted.specs.Members.{AllOf}
@@ -50,7 +51,7 @@ pub record Given (s : State) (i a : ℕ) (new : List ℕ) (pieces : List Piece) 
   pub ticket : g .ticket ≡ ticketOf (slot a) (getD (g .after .generations) a 0)
 
 -- The pieces of a shape are among its new slots.
-pieces-below : (m : ℕ) (shape : Shape) (n : News) (c : Cut) → ((j : ℕ) → In j (newOnes shape n) → j < m) → AllOf (λ x. x < m) (slotsOf (piecesOf shape n c))
+pieces-below : (m : ℕ) (shape : Shape) (n : CutSlots) (c : Cut) → ((j : ℕ) → In j (newOnes shape n) → j < m) → AllOf (λ x. x < m) (slotsOf (piecesOf shape n c))
 pieces-below m Exact n c h = tt
 pieces-below m Along n c h = (h _ (inl refl), tt)
 pieces-below m AlongLeft n c h = (h _ (inr (inr (inl refl))), (h _ (inl refl), tt))
@@ -62,18 +63,18 @@ module _ (s : State) (L : LentOf s) (S : Sound s) (e : Extent) (l : Lists)
   pub cut-given : (shape : Shape) (q : Rectangle) (c : Cut) → NotEmpty q → CutsAs shape (nodeAt (s .words) i .orientation) (nodeAt (s .words) i .rect) q c
       → slotsNeeded shape ≤ spareSlots (s .words) (length (s .generations)) (s .head .count)
       → let n = newsOf shape (s .words) (s .generations) (s .head) i in
-      Given s (i .0) (n .alloc .0) (newOnes shape n) (piecesOf shape n c) (taken shape s (setupAt s) l i b k q c)
+      Given s (i .0) (n .slots .alloc .0) (newOnes shape (n .slots)) (piecesOf shape (n .slots) c) (taken shape s (setupAt s) l i b k q c)
   unfolding taken
   cut-given shape q c some cut enough =
       let n = newsOf shape (s .words) (s .generations) (s .head) i in
-      let w = carved shape (s .words) i n q c in
+      let w = carved shape (s .words) i (n .slots) q c in
       let T = news-taken (L .few) (sound-taking s S) i shape n refl enough in
       let C = table-carved (s .words) (s .generations) (s .head) (lent-slots s L) (lent-few s L) (S .rule3) (S .rule4) (S .rule5) i (p .live) (p .free) (S .rule1 .fits) q some shape n refl T c cut in
-      let words = length-carved shape (s .words) i n q c in
+      let words = length-carved shape (s .words) i (n .slots) q c in
       let fits = T .fits in
       let slots : n .head .count * 8 ≤ length w = rw words (omega (arith, lent-slots s L)) in
-      let K′ = pieces-stock w (n .head .count) (setupAt s) (listsOf s) slots (rw words (lent-few s L)) (rw words (lent-room s L)) shape n c
-      (removal-stocks K (T .taken) C b k (p .place) (p .entry)) (pieces-below (n .head .count) shape n c (T .taken .below)) (C .pieces-hold) in
+      let K′ = pieces-stock w (n .head .count) (setupAt s) (listsOf s) slots (rw words (lent-few s L)) (rw words (lent-room s L)) shape (n .slots) c
+      (removal-stocks K (T .taken) C b k (p .place) (p .entry)) (pieces-below (n .head .count) shape (n .slots) c (T .taken .below)) (C .pieces-hold) in
       record {
         answer = refl;
         sound = cut-sound w S T (p .live) C K′;

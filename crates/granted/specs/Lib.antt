@@ -1,4 +1,5 @@
 pub mod NewSlots
+pub mod Takes
 pub mod News
 pub mod Writes
 pub mod CutShapes

@@ -12,12 +12,13 @@ use Rattle.steps.specs.declared.Head.{Head}
 use Rattle.sound.specs.Sound.{Sound}
 use Rattle.grants.specs.Carves.{News, newsOf}
 use Rattle.grants.specs.Shapes.{slotsNeeded}
+use Rattle.grants.specs.declared.CutSlots.{CutSlots}
 use Rattle.grants.specs.declared.Shape.{Shape}
 use Rattle.grants.specs.declared.Shape.the-variants.{Exact, Along, AlongLeft, Across, AcrossLeft}
 use Rattle.granted.specs.NewSlots.{Taking, start-taking, slot-taken}
 
 -- The new slots of a shape, the latest first.
-abbrev pub newOnes : Shape → News → List ℕ
+abbrev pub newOnes : Shape → CutSlots → List ℕ
 newOnes Exact n = []
 newOnes Along n = n .split .0 ∷ []
 newOnes AlongLeft n = n .left .0 ∷ n .alloc .0 ∷ n .split .0 ∷ []
@@ -31,7 +32,7 @@ sound-taking s S = start-taking (s .words) (s .generations) (s .head) (S .rule2)
 module _ {w g : List ℕ} {h : Head} (few : length g ≤ 4096) (T : Taking w g h [] g h) (i : AllocIndex) where
   -- Where as many slots are spare as a shape needs, its new slots are taken.
   pub news-taken : (shape : Shape) (n : News) → n ≡ newsOf shape w g h i → slotsNeeded shape ≤ spareSlots w (length g) (h .count)
-      → Taking w g h (newOnes shape n) (n .generations) (n .head)
+      → Taking w g h (newOnes shape (n .slots)) (n .generations) (n .head)
   unfolding newsOf
   news-taken Exact n e some = rw e T
   news-taken Along n e some = rw e (slot-taken few T _ refl (omega arith))

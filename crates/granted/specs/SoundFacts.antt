@@ -1,4 +1,4 @@
--- What sound tables of lengths in range give an allocate: lists ready to be searched, room in the tables, and a chosen slot that is
+-- What sound tables of lengths in range give a call: lists ready to be searched and pushed onto, room in the tables, and a chosen slot that is
 -- live, Free and as large as the request.
 -- Assumes nothing.
 use Prim.Native.Nat.{ℕ, _*_, _≤_, _<_}
@@ -26,10 +26,11 @@ use Rattle.choices.specs.declared.Chosen.the-variants.{At}
 use Rattle.steps.specs.State.{State, listsOf}
 use Rattle.sound.specs.View.{seen, Live}
 use Rattle.sound.specs.Rules.{NotEmpty}
-use Rattle.sound.specs.Sound.{Sound, sheetOf}
+use Rattle.sound.specs.Sound.{Counted, Sound, sheetOf}
 use Rattle.links.specs.LinkLaws.{link-some}
 use Rattle.changes.specs.Pieces.{leaf-filled}
 use Rattle.lent.specs.Lent.{LentOf}
+use Rattle.entries.specs.Entries.{ListsReady}
 
 -- The setup of a state.
 abbrev pub setupAt : State → Setup
@@ -55,6 +56,14 @@ module _ (s : State) (L : LentOf s) where
   lent-room Small = omega arith
   lent-room Medium = omega arith
   lent-room Large = omega arith
+
+  -- By rule 1 the lists are ready for a push.
+  pub lists-ready : Counted s → ListsReady (s .words) (listsOf s)
+  lists-ready C b = record {
+    entries = record { within = C .within b; has = λ j q. omega (arith, C .entries b j q, C .fits, lent-slots) };
+    few = lent-few;
+    room = lent-room b;
+  }
 
   module _ (S : Sound s) where
     -- A Free slot below n is not empty.

@@ -31,9 +31,9 @@ use Rattle.sound.specs.View.{seen}
 use Rattle.sound.specs.Sound.{Counted, Listed, Sound, HasEntry}
 use Rattle.forest.specs.Pigeon.{In, In-dec}
 use Rattle.changes.specs.Swaps.{Taken}
-use Rattle.grants.specs.Carves.{News}
 use Rattle.entries.specs.Entries.{entered}
 use Rattle.grants.specs.Grants.{piecesEntered}
+use Rattle.grants.specs.declared.CutSlots.{CutSlots}
 use Rattle.grants.specs.declared.Shape.{Shape}
 use Rattle.grants.specs.declared.Shape.the-variants.{Exact, Along, AlongLeft, Across, AcrossLeft}
 use Rattle.cuts.specs.declared.Cut.{Cut}
@@ -142,7 +142,7 @@ module _ (w : List ℕ) (n : ℕ) (s : Setup) (was : Lists) (slots : n * 8 ≤ l
   all-stock (p ∷ ps) K h r = all-stock ps (push-stocks p K (h .0) (r .0)) (h .1) (r .1)
 
   -- So after the pushes of a shape every Free slot has an entry.
-  pub pieces-stock : {l : Lists} (shape : Shape) (m : News) (c : Cut) → Stocked w n s was l (slotsOf (piecesOf shape m c))
+  pub pieces-stock : {l : Lists} (shape : Shape) (m : CutSlots) (c : Cut) → Stocked w n s was l (slotsOf (piecesOf shape m c))
       → AllOf (λ x. x < n) (slotsOf (piecesOf shape m c)) → Hold (seen w) (piecesOf shape m c) → Stocked w n s was (piecesEntered shape w s m c l) []
   unfolding enteredAll piecesEntered
   pieces-stock Exact m c = all-stock (piecesOf Exact m c)

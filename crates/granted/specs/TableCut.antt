@@ -21,6 +21,7 @@ use Rattle.sound.specs.Rules.{NotEmpty, PlaceChain}
 use Rattle.sound.specs.Sound.{Linked, Merged}
 use Rattle.forest.specs.Pigeon.{In}
 use Rattle.grants.specs.Carves.{News, newsOf, beside, pairUnder, carved}
+use Rattle.grants.specs.declared.CutSlots.{CutSlots}
 use Rattle.grants.specs.declared.Shape.{Shape}
 use Rattle.grants.specs.declared.Shape.the-variants.{Exact, Along, AlongLeft, Across, AcrossLeft}
 use Rattle.granted.specs.NewSlots.{Taking, new-has-slot}
@@ -31,7 +32,7 @@ use Rattle.granted.specs.CutSteps.{turned-rekind, along-step, along-left
 use Rattle.granted.specs.Carved.{Piece, piece, Carving, next-apart, exact-carving, along-carving, along-left-carving, across-carving, across-left-carving}
 
 -- The Free pieces of a shape, in the order in which they are pushed.
-abbrev pub piecesOf : Shape → News → Cut → List Piece
+abbrev pub piecesOf : Shape → CutSlots → Cut → List Piece
 piecesOf Exact n c = []
 piecesOf Along n c = piece (n .split .0) (c .split) ∷ []
 piecesOf AlongLeft n c = piece (n .split .0) (c .split) ∷ piece (n .left .0) (c .leftover) ∷ []
@@ -39,7 +40,7 @@ piecesOf Across n c = piece (n .split .0) (c .split) ∷ []
 piecesOf AcrossLeft n c = piece (n .split .0) (c .split) ∷ piece (n .left .0) (c .leftover) ∷ []
 
 -- A cut keeps the table's length.
-pub length-carved : (shape : Shape) (w : List ℕ) (i : AllocIndex) (n : News) (q : Rectangle) (c : Cut) → length (carved shape w i n q c) ≡ length w
+pub length-carved : (shape : Shape) (w : List ℕ) (i : AllocIndex) (n : CutSlots) (q : Rectangle) (c : Cut) → length (carved shape w i n q c) ≡ length w
 unfolding carved
 length-carved Exact w i n q c = length-turned w i q
 length-carved Along w i n q c = length-turned _ i q ∙ length-beside w i (n .split) (c .split)
@@ -64,60 +65,60 @@ module _ (w g : List ℕ) (h : Head) {root : ℕ} {all : Rectangle} (slots : len
       (omega arith, λ x. a (inl x), λ x. a (inr (rw x m)))
 
   -- THE TABLE. With its new slots taken, a cut of any shape carves the table.
-  pub table-carved : (shape : Shape) (n : News) → n ≡ newsOf shape w g h i → Taking w g h (newOnes shape n) (n .generations) (n .head)
+  pub table-carved : (shape : Shape) (n : News) → n ≡ newsOf shape w g h i → Taking w g h (newOnes shape (n .slots)) (n .generations) (n .head)
       → (c : Cut) → CutsAs shape (nodeAt w i .orientation) (nodeAt w i .rect) q c
-      → Carving (seen w) (seen (carved shape w i n q c)) (h .count) (n .head .count) root (i .0) (n .alloc .0) (newOnes shape n) (piecesOf shape n c) q
+      → Carving (seen w) (seen (carved shape w i (n .slots) q c)) (h .count) (n .head .count) root (i .0) (n .slots .alloc .0) (newOnes shape (n .slots)) (piecesOf shape (n .slots) c) q
   unfolding carved newsOf seen
   table-carved Exact n e T c cut =
       rw e (exact-carving L M P lv free (turned-rekind (turn-writes w i q has-chosen) cut) cut)
   table-carved Along n e T c cut =
-      let a : n .alloc ≡ i = ap (λ x. x .alloc) e in
-      let u = beside w i (n .split) (c .split) in
-      let hs = has-new T (n .split .0) (inl refl) in
-      let apart : n .split .0 ≡ i .0 → ⊥ = λ x. T .taken .idle (i .0) (inl (sym x)) lv in
-      let B = beside-writes w few i (n .split) (c .split) has-chosen hs apart (next-fine (newOnes Along n) _ _ T (n .split .0) (inl refl)) in
-      let U = turn-writes u i q (rw (length-beside w i (n .split) (c .split)) has-chosen) in
+      let a : n .slots .alloc ≡ i = ap (λ x. x .slots .alloc) e in
+      let u = beside w i (n .slots .split) (c .split) in
+      let hs = has-new T (n .slots .split .0) (inl refl) in
+      let apart : n .slots .split .0 ≡ i .0 → ⊥ = λ x. T .taken .idle (i .0) (inl (sym x)) lv in
+      let B = beside-writes w few i (n .slots .split) (c .split) has-chosen hs apart (next-fine (newOnes Along (n .slots)) _ _ T (n .slots .split .0) (inl refl)) in
+      let U = turn-writes u i q (rw (length-beside w i (n .slots .split) (c .split)) has-chosen) in
       rw a (along-carving L M P lv free (T .taken) some (cut .split)
-      (along-step B U apart (λ j x y. next-apart L lv (newOnes Along n) (T .taken) j x (inl y)) (cut .parts)))
+      (along-step B U apart (λ j x y. next-apart L lv (newOnes Along (n .slots)) (T .taken) j x (inl y)) (cut .parts)))
   table-carved AlongLeft n e T c cut =
-      let u = beside w i (n .split) (c .split) in
+      let u = beside w i (n .slots .split) (c .split) in
       let v = stored u i (toKind Container) in
-      let lu = length-beside w i (n .split) (c .split) in
+      let lu = length-beside w i (n .slots .split) (c .split) in
       let lv′ : length v ≡ length w = length-stored u i (toKind Container) ∙ lu in
-      let hs = has-new T (n .split .0) (inr (inr (inl refl))) in
-      let ha = has-new T (n .alloc .0) (inr (inl refl)) in
-      let hl = has-new T (n .left .0) (inl refl) in
-      let N : In (i .0) (newOnes AlongLeft n) → ⊥ = λ m. T .taken .idle (i .0) m lv in
-      let B = beside-writes w few i (n .split) (c .split) has-chosen hs (λ x. N (inr (inr (inl (sym x))))) (next-fine (newOnes AlongLeft n) _ _ T (n .split .0) (inr (inr (inl refl)))) in
+      let hs = has-new T (n .slots .split .0) (inr (inr (inl refl))) in
+      let ha = has-new T (n .slots .alloc .0) (inr (inl refl)) in
+      let hl = has-new T (n .slots .left .0) (inl refl) in
+      let N : In (i .0) (newOnes AlongLeft (n .slots)) → ⊥ = λ m. T .taken .idle (i .0) m lv in
+      let B = beside-writes w few i (n .slots .split) (c .split) has-chosen hs (λ x. N (inr (inr (inl (sym x))))) (next-fine (newOnes AlongLeft (n .slots)) _ _ T (n .slots .split .0) (inr (inr (inl refl)))) in
       let R = kind-writes u i Container (rw lu has-chosen) in
-      let U = pair-writes v (rw lv′ few) i (flip (nodeAt w i .orientation)) (n .alloc) Alloc q (n .left) (c .leftover)
+      let U = pair-writes v (rw lv′ few) i (flip (nodeAt w i .orientation)) (n .slots .alloc) Alloc q (n .slots .left) (c .leftover)
       (slot-link w few i has-chosen) (rw lv′ ha) (rw lv′ hl) (λ x. T .distinct .0 (inl (sym x))) in
       along-left-carving L M P lv free (T .taken) some (cut .left) (cut .split)
-      (along-left-step B R U N (T .distinct) (next-apart L lv (newOnes AlongLeft n) (T .taken)) cut)
+      (along-left-step B R U N (T .distinct) (next-apart L lv (newOnes AlongLeft (n .slots)) (T .taken)) cut)
   table-carved Across n e T c cut =
       let u = stored w i (toKind Container) in
       let lu = length-stored w i (toKind Container) in
-      let hs = has-new T (n .split .0) (inr (inl refl)) in
-      let ha = has-new T (n .alloc .0) (inl refl) in
-      let N : In (i .0) (newOnes Across n) → ⊥ = λ m. T .taken .idle (i .0) m lv in
+      let hs = has-new T (n .slots .split .0) (inr (inl refl)) in
+      let ha = has-new T (n .slots .alloc .0) (inl refl) in
+      let N : In (i .0) (newOnes Across (n .slots)) → ⊥ = λ m. T .taken .idle (i .0) m lv in
       let R = kind-writes w i Container has-chosen in
-      let U = pair-writes u (rw lu few) i (flip (nodeAt w i .orientation)) (n .alloc) Alloc q (n .split) (c .split)
+      let U = pair-writes u (rw lu few) i (flip (nodeAt w i .orientation)) (n .slots .alloc) Alloc q (n .slots .split) (c .split)
       (slot-link w few i has-chosen) (rw lu ha) (rw lu hs) (λ x. T .distinct .0 (inl x)) in
       across-carving L M P lv free (T .taken) some (cut .split) (across-step R U N (cut .parts))
   table-carved AcrossLeft n e T c cut =
       let o = nodeAt w i .orientation in
       let u = stored w i (toKind Container) in
       let lu = length-stored w i (toKind Container) in
-      let v = pairUnder u i (flip o) (n .inner) Container noRect (n .split) (c .split) in
-      let lv′ : length v ≡ length w = length-pair u i (flip o) (n .inner) Container noRect (n .split) (c .split) ∙ lu in
-      let hs = has-new T (n .split .0) (inr (inr (inr (inl refl)))) in
-      let hc = has-new T (n .inner .0) (inr (inr (inl refl))) in
-      let ha = has-new T (n .alloc .0) (inr (inl refl)) in
-      let hl = has-new T (n .left .0) (inl refl) in
-      let N : In (i .0) (newOnes AcrossLeft n) → ⊥ = λ m. T .taken .idle (i .0) m lv in
+      let v = pairUnder u i (flip o) (n .slots .inner) Container noRect (n .slots .split) (c .split) in
+      let lv′ : length v ≡ length w = length-pair u i (flip o) (n .slots .inner) Container noRect (n .slots .split) (c .split) ∙ lu in
+      let hs = has-new T (n .slots .split .0) (inr (inr (inr (inl refl)))) in
+      let hc = has-new T (n .slots .inner .0) (inr (inr (inl refl))) in
+      let ha = has-new T (n .slots .alloc .0) (inr (inl refl)) in
+      let hl = has-new T (n .slots .left .0) (inl refl) in
+      let N : In (i .0) (newOnes AcrossLeft (n .slots)) → ⊥ = λ m. T .taken .idle (i .0) m lv in
       let R = kind-writes w i Container has-chosen in
-      let U1 = pair-writes u (rw lu few) i (flip o) (n .inner) Container noRect (n .split) (c .split)
+      let U1 = pair-writes u (rw lu few) i (flip o) (n .slots .inner) Container noRect (n .slots .split) (c .split)
       (slot-link w few i has-chosen) (rw lu hc) (rw lu hs) (λ x. T .distinct .1 .1 .0 (inl x)) in
-      let U2 = pair-writes v (rw lv′ few) (n .inner) o (n .alloc) Alloc q (n .left) (c .leftover)
-      (slot-link w few (n .inner) hc) (rw lv′ ha) (rw lv′ hl) (λ x. T .distinct .0 (inl (sym x))) in
+      let U2 = pair-writes v (rw lv′ few) (n .slots .inner) o (n .slots .alloc) Alloc q (n .slots .left) (c .leftover)
+      (slot-link w few (n .slots .inner) hc) (rw lv′ ha) (rw lv′ hl) (λ x. T .distinct .0 (inl (sym x))) in
       across-left-carving L M P lv free (T .taken) some (cut .left) (cut .split) (across-left-step R U1 U2 N (T .distinct) cut)

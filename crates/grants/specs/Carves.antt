@@ -16,42 +16,44 @@ use Rattle.slots.specs.declared.NodeKind.{NodeKind}
 use Rattle.slots.specs.declared.NodeKind.the-variants.{Container, Alloc, Free}
 use Rattle.steps.specs.Spares.{newNode}
 use Rattle.steps.specs.declared.Head.{Head}
+use Rattle.grants.specs.declared.CutSlots.{CutSlots}
 use Rattle.grants.specs.declared.Shape.{Shape}
 use Rattle.grants.specs.declared.Shape.the-variants.{Exact, Along, AlongLeft, Across, AcrossLeft}
 
--- The slots of an allocate: split, inner Container, Alloc and leftover, none where there is none, and what taking them changed.
+-- The slots of a cut: split, inner Container, Alloc and leftover, none where there is none.
+abbrev pub cutSlots : AllocIndex → AllocIndex → AllocIndex → AllocIndex → CutSlots
+cutSlots s c a l = record { split = s; inner = c; alloc = a; left = l }
+
+-- The slots of a cut, and what taking them changed.
 pub record News : Type 0 where
-  pub split : AllocIndex
-  pub inner : AllocIndex
-  pub alloc : AllocIndex
-  pub left : AllocIndex
+  pub slots : CutSlots
   pub head : Head
   pub generations : List ℕ
 
-abbrev pub news : AllocIndex → AllocIndex → AllocIndex → AllocIndex → Head → List ℕ → News
-news s c a l h g = record { split = s; inner = c; alloc = a; left = l; head = h; generations = g }
+abbrev pub news : CutSlots → Head → List ℕ → News
+news s h g = record { slots = s; head = h; generations = g }
 
 -- New slots in creation order: split, then the inner Container, then Alloc, then leftover. Without a new Alloc slot it is the chosen one.
 unfoldable pub newsOf : Shape → List ℕ → List ℕ → Head → AllocIndex → News
-newsOf Exact w g h i = news none none i none h g
+newsOf Exact w g h i = news (cutSlots none none i none) h g
 newsOf Along w g h i =
     let s = newNode w g h in
-    news (s .taken) none i none (s .head) (s .generations)
+    news (cutSlots (s .taken) none i none) (s .head) (s .generations)
 newsOf AlongLeft w g h i =
     let s = newNode w g h in
     let a = newNode w (s .generations) (s .head) in
     let l = newNode w (a .generations) (a .head) in
-    news (s .taken) none (a .taken) (l .taken) (l .head) (l .generations)
+    news (cutSlots (s .taken) none (a .taken) (l .taken)) (l .head) (l .generations)
 newsOf Across w g h i =
     let s = newNode w g h in
     let a = newNode w (s .generations) (s .head) in
-    news (s .taken) none (a .taken) none (a .head) (a .generations)
+    news (cutSlots (s .taken) none (a .taken) none) (a .head) (a .generations)
 newsOf AcrossLeft w g h i =
     let s = newNode w g h in
     let c = newNode w (s .generations) (s .head) in
     let a = newNode w (c .generations) (c .head) in
     let l = newNode w (a .generations) (a .head) in
-    news (s .taken) (c .taken) (a .taken) (l .taken) (l .head) (l .generations)
+    news (cutSlots (s .taken) (c .taken) (a .taken) (l .taken)) (l .head) (l .generations)
 
 -- The chosen slot turns Alloc, with the request's rectangle.
 unfoldable pub turned : List ℕ → AllocIndex → Rectangle → List ℕ
@@ -82,7 +84,7 @@ pairUnder w p o a k r b t = stored (stored w a (toNode (firstNode p b k o r))) b
 -- Along: split becomes its next sibling; with a leftover, the chosen slot turns Container over Alloc, leftover; without, it turns Alloc.
 -- Across: the chosen slot turns Container; with a leftover, over an inner Container with zero rectangle and split, the inner one
 -- over Alloc, leftover; without, over Alloc and split.
-unfoldable pub carved : Shape → List ℕ → AllocIndex → News → Rectangle → Cut → List ℕ
+unfoldable pub carved : Shape → List ℕ → AllocIndex → CutSlots → Rectangle → Cut → List ℕ
 carved Exact w i n q c = turned w i q
 carved Along w i n q c = turned (beside w i (n .split) (c .split)) i q
 carved AlongLeft w i n q c =

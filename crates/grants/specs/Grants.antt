@@ -27,7 +27,8 @@ use Rattle.steps.specs.Spares.{spareSlots}
 use Rattle.steps.specs.State.{State, state, listsOf}
 use Rattle.steps.specs.declared.Head.{Head}
 use Rattle.grants.specs.Shapes.{shapeOf, slotsNeeded}
-use Rattle.grants.specs.Carves.{News, newsOf, carved}
+use Rattle.grants.specs.Carves.{newsOf, carved}
+use Rattle.grants.specs.declared.CutSlots.{CutSlots}
 use Rattle.grants.specs.declared.Shape.{Shape}
 use Rattle.grants.specs.declared.Shape.the-variants.{Exact, Along, AlongLeft, Across, AcrossLeft}
 
@@ -63,7 +64,7 @@ withLists h w g l =
     w g (l .small .table) (l .medium .table) (l .large .table)
 
 -- Push split, then leftover: the pieces that the shape has.
-unfoldable pub piecesEntered : Shape → List ℕ → Setup → News → Cut → Lists → Lists
+unfoldable pub piecesEntered : Shape → List ℕ → Setup → CutSlots → Cut → Lists → Lists
 piecesEntered Exact w s n c l = l
 piecesEntered Along w s n c l = entered w s (n .split) (c .split) l
 piecesEntered AlongLeft w s n c l = entered w s (n .left) (c .leftover) (entered w s (n .split) (c .split) l)
@@ -74,9 +75,9 @@ piecesEntered AcrossLeft w s n c l = entered w s (n .left) (c .leftover) (entere
 unfoldable pub taken : Shape → State → Setup → Lists → AllocIndex → Bucket → ℕ → Rectangle → Cut → Grant
 taken shape s setup l i b k q c =
     let n = newsOf shape (s .words) (s .generations) (s .head) i in
-    let w = carved shape (s .words) i n q c in
-    grant 0 (ticketOf (n .alloc) (getD (n .generations) (n .alloc .0) 0)) q
-    (withLists (n .head) w (n .generations) (piecesEntered shape w setup n c (removedFrom b k l)))
+    let w = carved shape (s .words) i (n .slots) q c in
+    grant 0 (ticketOf (n .slots .alloc) (getD (n .generations) (n .slots .alloc .0) 0)) q
+    (withLists (n .head) w (n .generations) (piecesEntered shape w setup (n .slots) c (removedFrom b k l)))
 
 -- 7: fewer spare slots than the call needs, decided before the first slot is written. The lists stay as the search left them.
 unfoldable pub cutFor : State → Setup → Lists → Extent → AllocIndex → Bucket → ℕ → Grant

@@ -1,6 +1,7 @@
-// The shape of a cut, and how many new slots it needs.
+// The shape of a cut, its slots, and how many new ones it needs.
 use cuts::Cut;
 use geometry::Orientation;
+use slots::AllocIndex;
 ghost use mathlib.Core.Path.{_≡_};
 ghost use Prim.Native.Nat.{_≤_};
 ghost use Rattle.grants.specs.Shapes.{shapeOf, slotsNeeded};
@@ -12,6 +13,14 @@ pub enum Shape {
     AlongLeft,
     Across,
     AcrossLeft,
+}
+
+// The slots of a cut: split, inner Container, Alloc and leftover, none where there is none.
+pub struct CutSlots {
+    pub split: AllocIndex,
+    pub inner: AllocIndex,
+    pub alloc: AllocIndex,
+    pub left: AllocIndex,
 }
 
 // The shape of a cut of a slot with this orientation.

@@ -4,10 +4,7 @@ use mathlib.Core.Path.{_≡_, ap, _∙_}
 use mathlib.Core.List.{List}
 use Prim.Native.Nat.{ℕ, _≤_}
 use native.Mathlib.Omega.{arith}
-use lib.Dec.{ltb}
 use lib.ListN.{length}
-use borrow.Author.Tests.{ltb-true, ltb-false}
-use Rattle.geometry.specs.Choice.{pick-elim}
 use Rattle.geometry.specs.Sides.{setupOf}
 use Rattle.geometry.specs.declared.Orientation.{Orientation}
 use Rattle.geometry.specs.declared.Rectangle.{Rectangle}
@@ -23,6 +20,7 @@ use Rattle.steps.specs.declared.Head.{Head}
 use Rattle.entries.specs.Entries.{entered, ListsReady, Enterable}
 use Rattle.entries.specs.EntryLaws.{ready-enterable, ready-words}
 use Rattle.grants.specs.Grants.{withLists}
+use Rattle.granted.specs.Takes.{fresh-below}
 use Rattle.grows.specs.Grows.{moved, stretched, appendedTo}
 use Rattle.grown.specs.Appending.{linkedAfter, length-linked}
 use Rattle.growing.specs.Ready.{StepReady}
@@ -42,11 +40,7 @@ stretch-done h w a b c i r u t l et eu el g = rw (el, et, eu)
 
 -- A new slot is a slot of the table.
 fresh-has : (w g : List ℕ) (h : Head) (f : Fresh) → HasSpare w g h → f ≡ newNode w g h → HasSlot w (f .taken)
-unfolding newNode
-fresh-has w g h f p e =
-    rw e
-    (pick-elim (λ (x : Fresh). HasSlot w (x .taken)) (ltb (h .spare .0) (h .count)) _ _
-    (λ t. omega (arith, ltb-true (h .spare .0) (h .count) t, p .counted, p .slots)) (λ t. omega (arith, p .spare (ltb-false (h .spare .0) (h .count) t), p .slots)))
+fresh-has w g h f p e = omega (arith, p .slots, fresh-below w g h f p e .0)
 
 module _ {w g : List ℕ} {h : Head} {l : Lists} {i : AllocIndex} {r : Rectangle} (f : Fresh) (spare : HasSpare w g h) (ready : StepReady w l i r)
     (ef : f ≡ newNode w g h) where

@@ -52,9 +52,10 @@ pub record Reaches (s t : State) (all : Rectangle) (k : ℕ) : Type 0 where
   pub roots : Roots s t
 
 module _ (s : State) (all : Rectangle) (L : LentOf s) (S : Fills s all) (lone : Lone s → ⊥) where
-  -- ALONG by d: the last slot is stretched if Free, else one is appended to it.
+  -- ALONG by d: the last slot is stretched if Free, else one is appended to it. Its rectangle ends where the whole does.
   pub along-steps : (d : ℕ) → 0 < d → pick (not (freeEntry (s .words) (lastAt s .0))) 1 0 ≤ spareAt s
-      → Reaches s (grownAlong s d) (stretchedRect (runsAt s) all d) (pick (not (freeEntry (s .words) (lastAt s .0))) 1 0)
+      → Adjoin (runsAt s) all (appendedRect (runsAt s) (seen (s .words) (lastAt s .0) .rect) d)
+      × Reaches s (grownAlong s d) (stretchedRect (runsAt s) all d) (pick (not (freeEntry (s .words) (lastAt s .0))) 1 0)
   unfolding grownAlong seen
   along-steps d more = go (freeEntry (s .words) (i .0)) refl
     where
@@ -77,25 +78,30 @@ module _ (s : State) (all : Rectangle) (L : LentOf s) (S : Fills s all) (lone : 
       ad = rw (found .0 .orientation) (appended-adjoins o r d)
 
       go : (b : Bool) → freeEntry (s .words) (i .0) ≡ b → pick (not b) 1 0 ≤ spareAt s
-          → Reaches s (pick b (stretched s i (stretchedRect o r d)) (appendedTo s i o (appendedRect o r d))) (stretchedRect o all d) (pick (not b) 1 0)
+          → Adjoin o all (appendedRect o r d)
+          × Reaches s (pick b (stretched s i (stretchedRect o r d)) (appendedTo s i o (appendedRect o r d))) (stretchedRect o all d) (pick (not b) 1 0)
       go true e h =
           let free = kind-says (seen (s .words) (i .0) .kind) Free .0 e in
           let z = last-steps s all L S i (appendedRect o r d) (found .0 .live) free (found .0 .parent) (found .1) some ad in
           let w = whole-stretched o all r d (z .0) in
-          let j = appended-join o r d in
-          record {
-            fills = rw (← w, ← j) (z .1);
-            carries = rw (← j) (z .2);
-            roots = last-roots s all L S i (stretchedRect o r d) (found .0 .live) free (found .1) lone;
-          }
+          let j = appended-join o r d in (
+            z .0,
+            record {
+              fills = rw (← w, ← j) (z .1);
+              carries = rw (← j) (z .2);
+              roots = last-roots s all L S i (stretchedRect o r d) (found .0 .live) free (found .1) lone;
+            },
+          )
       go false e h =
           let z = append-steps s all L S i (appendedRect o r d) (found .0 .live) (fails (kind-says (seen (s .words) (i .0) .kind) Free) e) (found .0 .parent) (found .1) some ad h lone in
-          let w = whole-stretched o all r d (z .0) in
-          record {
-            fills = rw (← w) (rw (found .0 .orientation) at (z .1));
-            carries = rw (found .0 .orientation) at (z .2);
-            roots = rw (found .0 .orientation) at (z .3);
-          }
+          let w = whole-stretched o all r d (z .0) in (
+            z .0,
+            record {
+              fills = rw (← w) (rw (found .0 .orientation) at (z .1));
+              carries = rw (found .0 .orientation) at (z .2);
+              roots = rw (found .0 .orientation) at (z .3);
+            },
+          )
 
 module _ (s : State) (old new : Size) (L : LentOf s) (S : Fills s (sheetOf old)) (lone : Lone s → ⊥)
     (wide : natural (old .width) ≤ natural (new .width)) (tall : natural (old .height) ≤ natural (new .height)) where
@@ -105,9 +111,10 @@ module _ (s : State) (old new : Size) (L : LentOf s) (S : Fills s (sheetOf old))
   abbrev d : ℕ
   d = along o (growth old new)
 
-  between : (b : Bool) → ltb 0 d ≡ b → pick (b && not (freeEntry (s .words) (lastAt s .0))) 1 0 ≤ spareAt s
+  -- After the step along, if any, the top chain fills the old sheet stretched.
+  pub between : (b : Bool) → ltb 0 d ≡ b → pick (b && not (freeEntry (s .words) (lastAt s .0))) 1 0 ≤ spareAt s
       → Reaches s (pick b (grownAlong s d) s) (stretchedRect o (sheetOf old) d) (pick (b && not (freeEntry (s .words) (lastAt s .0))) 1 0)
-  between true e h = along-steps s (sheetOf old) L S lone d (ltb-true 0 d e) h
+  between true e h = along-steps s (sheetOf old) L S lone d (ltb-true 0 d e) h .1
   between false e h =
       let z : d ≡ 0 = omega (arith, ltb-false 0 d e) in
       record { fills = rw (stretched-none o (sheetOf old) d z) S; carries = carries-same L; roots = record { orientation = refl; lone = lone } }

@@ -18,14 +18,14 @@ use Rattle.grown.specs.Whole.{grown-steps}
 
 module _ (s : State) (new : Size) (L : LentOf s) (S : Sound s) (G : GrowDue s new) where
   -- SOUND. After the grow the tables are sound, and their lengths in range.
-  pub grow-keeps-sound : Sound (grown s new) × LentOf (grown s new)
-  grow-keeps-sound = let z = grown-steps s new L S G in (fills-sound (z .0) (ap sheetOf (sym (z .1 .sheet))), z .1 .lent)
+  pub grown-keeps-sound : Sound (grown s new) × LentOf (grown s new)
+  grown-keeps-sound = let z = grown-steps s new L S G in (fills-sound (z .0) (ap sheetOf (sym (z .1 .sheet))), z .1 .lent)
 
   -- TICKETS. The sheet has the new size and the options stay; every live ticket stays live with its rectangle, and none becomes live;
   -- every live slot keeps its generation, and as many fewer slots are spare as were asked for.
-  pub grow-keeps-tickets : Grows s new (grown s new)
+  pub grown-keeps-tickets : Grows s new (grown s new)
   unfolding seen
-  grow-keeps-tickets =
+  grown-keeps-tickets =
       let c = grown-steps s new L S G .1 in
       record {
         sheet = c .sheet;
@@ -42,8 +42,8 @@ module _ (s : State) (new : Size) (L : LentOf s) (S : Sound s) (G : GrowDue s ne
       }
 
   -- COVERED ONCE. Each point of the new sheet lies in the rectangle of an Alloc or Free slot, and of no other one.
-  pub grow-covers-once : (x y : ℕ) → x < natural (new .width) → y < natural (new .height)
+  pub grown-covers-once : (x y : ℕ) → x < natural (new .width) → y < natural (new .height)
       → (i : ℕ) × LeafAt (grown s new) i × InRect x y (rectAt (grown s new) i) × ((j : ℕ) → LeafAt (grown s new) j → InRect x y (rectAt (grown s new) j) → j ≡ i)
-  grow-covers-once x y h k =
-      let e = grow-keeps-tickets .sheet in
-      point-has-one-slot (grow-keeps-sound .0) x y (rw e h) (rw e k)
+  grown-covers-once x y h k =
+      let e = grown-keeps-tickets .sheet in
+      point-has-one-slot (grown-keeps-sound .0) x y (rw e h) (rw e k)

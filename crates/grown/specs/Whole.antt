@@ -25,7 +25,7 @@ use Rattle.grown.specs.Both.{needsAlong, needsAcross, both-steps}
 use Rattle.grown.specs.Terms.{GrowDue}
 
 -- The test of a single Free root.
-lone-says : (s : State) → Says (isLone s) (Lone s)
+pub lone-says : (s : State) → Says (isLone s) (Lone s)
 unfolding isLone seen
 lone-says s = both-say (kind-says (nodeAt (s .words) (s .head .root) .kind) Free) (link-none (nodeAt (s .words) (s .head .root) .next))
 
@@ -34,7 +34,7 @@ module _ (s : State) (new : Size) (L : LentOf s) (S : Sound s) (G : GrowDue s ne
   abbrev t : State
   t = state (withSheet (s .head) new) (s .words) (s .generations) (s .small) (s .medium) (s .large)
 
-  begins : Fills t (sheetOf (s .head .sheet))
+  pub begins : Fills t (sheetOf (s .head .sheet))
   unfolding setupOf
   begins = record {
     rule1 = record {

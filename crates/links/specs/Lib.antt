@@ -1,9 +1,10 @@
-pub mod Links
-pub mod TurnLaws
-pub mod TestLaws
-pub mod LinkLaws
-pub mod FirstLaws
-pub mod SpareLaws
 pub mod AgreeLaws
+pub mod FirstLaws
+pub mod Held
+pub mod LinkLaws
 pub mod LinkedLaws
+pub mod Links
 pub mod MergedLaws
+pub mod SpareLaws
+pub mod TestLaws
+pub mod TurnLaws

@@ -6,7 +6,7 @@ use native.Mathlib.Omega.{arith}
 use Rattle.table.specs.Table.{HasSlot}
 use Rattle.steps.specs.State.{State}
 use Rattle.audit.specs.Audited.{Checked}
-use Rattle.lookup.specs.Held.{Held}
+use Rattle.links.specs.Held.{Held}
 
 module _ (s : State) {k : ℕ} (c : Checked s k) (z : k ≡ 0) where
   pub checked-held : Held (s .words) (s .generations) (s .head .count)

@@ -1,5 +1,3 @@
-pub mod Lookup
-pub mod Held
 pub mod HeldLaws
-pub mod TicketLaws
+pub mod Lookup
 pub mod LookupWhen

@@ -5,10 +5,9 @@ use mathlib.Core.Path.{_≡_, refl, _∙_}
 use mathlib.Core.Logic.{_↔_}
 use Prim.Native.Nat.{_≤_, _<_}
 use native.Mathlib.Omega.{arith}
-use lib.ListN.{length, getD}
+use lib.ListN.{getD}
 use Rattle.geometry.specs.Rectangles.{noRect}
 use Rattle.geometry.specs.declared.Rectangle.{Rectangle}
-use Rattle.slots.specs.Slots.{slot}
 use Rattle.table.specs.Table.{nodeAt}
 use Rattle.tickets.specs.Tickets.{slotOf, generationOf}
 use Rattle.tickets.specs.declared.AllocId.{AllocId}
@@ -20,7 +19,7 @@ use Rattle.lent.specs.Lent.{LentOf}
 use Rattle.audit.specs.Answers.{Given, given}
 use Rattle.audit.specs.AnswerLaws.{answers-1, answers-2, answers-other, answers-sound, answers-refused, on-sound}
 use Rattle.lookup.specs.Lookup.{lookup, IndexCall}
-use Rattle.lookup.specs.TicketLaws.{ticket-cases}
+use Rattle.live.specs.TicketLaws.{ticket-cases}
 
 module _ (s : State) (t : AllocId) where
   by-ticket : (P : Given Rectangle → Type 0) → (s .head .count ≤ slotOf t .0 → P (given 8 noRect s))

@@ -22,8 +22,9 @@ use Rattle.forest.specs.Follows.{Follows, size}
 use Rattle.forest.specs.Place.{SlotAt, Then, PlaceF}
 use Rattle.links.specs.LinkLaws.{to-inj, no-link}
 use Rattle.links.specs.TestLaws.{Says, both-say, says-as, equal-says}
-use Rattle.places.specs.Places.{sameRect, adjoins, kidsAt, nextAt, Fitting, Standing, StoredF, Chained}
-use Rattle.places.specs.declared.Placed.{Placed}
+use Rattle.joins.specs.Joins.{sameRect, adjoins}
+use Rattle.places.specs.Places.{kidsAt, nextAt, Fitting, Standing, StoredF, Chained}
+use Rattle.joins.specs.declared.Placed.{Placed}
 
 pub clash : {b : Bool} → b ≡ true → b ≡ false → ⊥
 clash p q = true≢false (sym p ∙ q)

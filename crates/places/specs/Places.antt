@@ -1,79 +1,24 @@
 -- What the place functions promise: the forest that stands in the tables from a slot on, within the count, and its place.
 -- Assumes nothing.
 use mathlib.Core.Path.{_≡_}
-use mathlib.Core.Bool.{Bool, true, false, _&&_, not}
+use mathlib.Core.Bool.{Bool, true, false}
 use mathlib.Core.List.{List}
-use Prim.Native.Nat.{ℕ, suc, _+_, _-_, _≤_, _<_}
+use Prim.Native.Nat.{ℕ, suc, _+_, _≤_, _<_}
 use lib.ListN.{length, getD}
-use lib.Dec.{eqb, ltb}
-use Rattle.geometry.specs.Choice.{pick}
-use Rattle.geometry.specs.Rectangles.{flip, emptyRect, noRect}
+use Rattle.geometry.specs.Rectangles.{flip}
 use Rattle.geometry.specs.declared.Orientation.{Orientation}
-use Rattle.geometry.specs.declared.Orientation.the-variants.{Vertical, Horizontal}
 use Rattle.geometry.specs.declared.Rectangle.{Rectangle}
 use Rattle.slots.specs.Slots as slots
-use Rattle.slots.specs.Slots.{isNone, sameKind, sameOrientation}
 use Rattle.table.specs.Table.{nodeAt}
-use Rattle.slots.specs.declared.AllocIndex.{AllocIndex}
 use Rattle.slots.specs.declared.Node.{Node}
-use Rattle.slots.specs.declared.NodeKind.the-variants.{Container, Unused}
+use Rattle.slots.specs.declared.NodeKind.the-variants.{Container}
 use Rattle.sound.specs.View.{Link, none, to, Seen, seen, inUse}
-use Rattle.sound.specs.Rules.{join}
 use Rattle.forest.specs.Forest.{Forest, empty, slot, head, Rep}
 use Rattle.forest.specs.Follows.{Follows, size, down}
 use Rattle.forest.specs.Place.{SlotAt, PlaceF}
 use Rattle.links.specs.Links.{Table}
 use Rattle.links.specs.TestLaws.{Says}
-use Rattle.places.specs.declared.Placed.{Placed}
-
-unfoldable pub sameRect : Rectangle → Rectangle → Bool
-sameRect r s = eqb (r .x0) (s .x0) && (eqb (r .y0) (s .y0) && (eqb (r .x1) (s .x1) && eqb (r .y1) (s .y1)))
-
--- s adjoins r along an orientation, as a test (`adjoins-true`, `true-adjoins`).
-unfoldable pub adjoins : Orientation → Rectangle → Rectangle → Bool
-adjoins Vertical r s = eqb (r .y1) (s .y0) && (eqb (r .x0) (s .x0) && eqb (r .x1) (s .x1))
-adjoins Horizontal r s = eqb (r .x1) (s .x0) && (eqb (r .y0) (s .y0) && eqb (r .y1) (s .y1))
-
--- What was seen of a chain and what comes after it each fit, and adjoin.
-abbrev pub fitsTogether : Orientation → Placed → Placed → Bool
-fitsTogether o a b = a .fits && (b .fits && adjoins o (a .at) (b .at))
-
-abbrev pub outOfSlots : Placed
-outOfSlots = record { ended = false; fits = false; at = noRect; stored = false; left = 0 }
-
-abbrev pub nothingYet : ℕ → Placed
-nothingYet left = record { ended = false; fits = false; at = noRect; stored = false; left = left }
-
-abbrev pub ownPlace : Rectangle → ℕ → Placed
-ownPlace r left = record { ended = true; fits = not (emptyRect r); at = r; stored = true; left = left - 1 }
-
--- A Container's place, with whether its stored rectangle is that.
-abbrev pub storedAs : Placed → Rectangle → Placed
-storedAs p r = record { ended = p .ended; fits = p .fits; at = p .at; stored = sameRect (p .at) r; left = p .left }
-
--- Two places one after the other, as one.
-unfoldable pub together : Orientation → Placed → Placed → Placed
-together o a b =
-    pick (b .ended) (record { ended = true; fits = fitsTogether o a b; at = join (a .at) (b .at); stored = b .stored; left = b .left }) b
-
--- One member more of a chain: the first has no prev.
-unfoldable pub added : Orientation → AllocIndex → Placed → Placed → Placed
-added o prev a b = pick (isNone prev) b (together o a b)
-
--- A slot in use with this parent, this prev and this orientation.
-unfoldable pub standsAs : Node → AllocIndex → AllocIndex → Orientation → Bool
-standsAs m p v o = eqb (m .parent .0) (p .0) && (eqb (m .prev .0) (v .0) && (sameOrientation (m .orientation) o && not (sameKind (m .kind) Unused)))
-
--- The only child of its parent, and a Container.
-unfoldable pub isLone : Node → AllocIndex → Orientation → Bool
-isLone m p o = sameKind (m .kind) Container && (isNone (m .next) && standsAs m p (slots.slot 4294967295) o)
-
-unfoldable pub loneAt : List ℕ → ℕ → AllocIndex → AllocIndex → Orientation → Bool
-loneAt w n i p o = ltb (i .0) n && isLone (nodeAt w i) p o
-
--- Slot i is one of n, and the count has a slot left for it.
-unfoldable pub heldBy : ℕ → ℕ → ℕ → Bool
-heldBy n i left = ltb i n && ltb 0 left
+use Rattle.joins.specs.declared.Placed.{Placed}
 
 -- The links that the walk follows: a Container's first child, by the table of first children, and next.
 unfoldable pub kidsAt : List ℕ → List ℕ → ℕ → Link

@@ -23,7 +23,7 @@ use Rattle.links.specs.LinkLaws.{no-link}
 use Rattle.links.specs.TestLaws.{Says, says-as}
 use Rattle.places.specs.Places.{kidsAt, nextAt, Standing, StoredAt, AtLast, StoredF, Chained}
 use Rattle.places.specs.PlaceLaws.{standing-ended, fits-placed, fits-stored, placed-fits}
-use Rattle.places.specs.declared.Placed.{Placed}
+use Rattle.joins.specs.declared.Placed.{Placed}
 
 -- How many slots of the table are live.
 unfoldable pub liveSlots : List ℕ → ℕ → ℕ

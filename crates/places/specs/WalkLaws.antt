@@ -29,9 +29,11 @@ use Rattle.forest.specs.Back.{shape-live}
 use Rattle.forest.specs.Place.{SlotAt, PlaceF}
 use Rattle.links.specs.LinkLaws.{to-inj, no-link, link-none, link-some, link-of-slot, same-link-says, in-use-says}
 use Rattle.links.specs.TestLaws.{Says, fails, both-say, says-as, less-says, kind-says, orientation-says}
-use Rattle.places.specs.Places.{adjoins, outOfSlots, nothingYet, ownPlace, storedAs, together, added, standsAs, isLone, loneAt, heldBy, kidsAt, nextAt, Ready, Held, Fitting, Standing, StoredAt, AtLast, StoredF, Chained, Contained, Slotted, Lined}
+use Rattle.joins.specs.Joins.{adjoins, outOfSlots, nothingYet, ownPlace, storedAs, together, added}
+use Rattle.standing.specs.Standing.{standsAs, isLone, loneAt, heldBy}
+use Rattle.places.specs.Places.{kidsAt, nextAt, Ready, Held, Fitting, Standing, StoredAt, AtLast, StoredF, Chained, Contained, Slotted, Lined}
 use Rattle.places.specs.PlaceLaws.{clash, adjoins-true, true-adjoins, follows-one, slot-one, place-one, own-fits, last-fits, chain-fits, same-rect-says}
-use Rattle.places.specs.declared.Placed.{Placed}
+use Rattle.joins.specs.declared.Placed.{Placed}
 
 -- The contents m of slot i, as the code read them.
 module _ (w : List ℕ) (i : ℕ) {m : Node} (e : m ≡ nodeAt w (slots.slot i)) where

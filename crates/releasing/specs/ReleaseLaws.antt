@@ -24,10 +24,10 @@ use Rattle.forest.specs.Bridge.{forest}
 use Rattle.forest.specs.Forest.{Forest, Represents}
 use Rattle.forest.specs.Tree.{treeOf}
 use Rattle.changes.specs.Pieces.{leaf-filled}
-use Rattle.entries.specs.Entries.{entered, ListsReady, Enterable}
+use Rattle.entries.specs.Entries.{entered, Enterable}
 use Rattle.entries.specs.EntryLaws.{ready-enterable, ready-words}
 use Rattle.grants.specs.Grants.{withLists}
-use Rattle.granted.specs.SoundFacts.{lent-few, lent-slots, lent-room}
+use Rattle.granted.specs.SoundFacts.{lent-few, lent-slots, lists-ready}
 use Rattle.frees.specs.Climbs.{Level, level, climbed}
 use Rattle.frees.specs.Frees.{climbOf, released}
 use Rattle.freed.specs.Folds.{freeing}
@@ -63,17 +63,6 @@ module _ {h : Head} {w a b c : List ℕ} {i : AllocIndex} (r : Releasable h w a 
         reached = start-reached s (r .lent) (r .sound) i (r .below) (r .alloc) (grown .0) (grown .1);
       })
 
-  -- The lists are ready for a push.
-  lists-ready : ListsReady w (listsOf s)
-  lists-ready k = record {
-    entries = record {
-      within = r .sound .rule1 .within k;
-      has = λ j q. omega (arith, r .sound .rule1 .entries k j q, r .sound .rule1 .fits, lent-slots s (r .lent));
-    };
-    few = lent-few s (r .lent);
-    room = lent-room s (r .lent) k;
-  }
-
   -- Where the climb ended.
   module _ {u : List ℕ} {m : Level} (marks : u ≡ stored w i (toKind Free)) (climbs : m ≡ climbed (h .count) (level u (h .spare) i)) where
     end : Ended (seen (stored w i (toKind Free))) (length w) (h .count) (h .root .0) (i .0) (sheetOf (h .sheet)) (freeing (eqb (i .0)) (treeOf (seen w) (grown .0))) m
@@ -91,7 +80,7 @@ module _ {h : Head} {w a b c : List ℕ} {i : AllocIndex} (r : Releasable h w a 
     end-enters e =
         let z = end .stands in
         let f = leaf-filled (seen (m .words)) (h .count) (h .root .0) (z .links) (sheetOf (h .sheet)) (z .places) (m .at .0) (z .live) (inr (z .free)) in
-        (ready-enterable (m .words) (m .at .0) (listsOf s) (ready-words w (m .words) (listsOf s) (end .words) lists-ready) end-has, rw e (omega (arith, f .0)), rw e (omega (arith, f .1)))
+        (ready-enterable (m .words) (m .at .0) (listsOf s) (ready-words w (m .words) (listsOf s) (end .words) (lists-ready s (r .lent) (r .sound .rule1))) end-has, rw e (omega (arith, f .0)), rw e (omega (arith, f .1)))
 
 -- What all of it leaves.
 pub release-done : (h : Head) (w a b c : List ℕ) (i : AllocIndex) (u : List ℕ) (m : Level) (n : Node) (t : Setup) (l : Lists)

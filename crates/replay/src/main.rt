@@ -1,22 +1,12 @@
 // Reads the list of the original crate's calls and answers (docs/ORACLE.md) from standard input, holds the proved
 // code against it and writes what agrees. A line on which our code gives something else is a mismatch; one that is
 // out of form, of no known kind, or on which our code must not be called is a fault.
-mod agree;
-mod calls;
-mod leaves;
-mod looks;
-mod rebuilt;
-mod report;
 mod take;
-mod told;
-mod verdict;
 
 use reading::Line;
 use reading::Reading;
-use take::Call;
 use take::Kept;
-use verdict::Tally;
-use verdict::Verdict;
+use tally::Tally;
 ghost use Prim.Native.Nat.{_≤_};
 
 // How many numbers a line of this kind has, and 0 for a kind that is not known. A list's line says how many follow.
@@ -43,37 +33,6 @@ fn is_in_form(line: &[u32; 128], read: Line) -> bool {
     read.count == numbers_on(line[0], line[2])
 }
 
-// One more of its kind, unless it differs, is a fault, or is told of a call that is counted at its end.
-fn count_kind(counts: &mut [u64; 32], kind: u32, verdict: Verdict) {
-    match verdict {
-        Verdict::Differs => {}
-        Verdict::Fault => {}
-        Verdict::Told => {}
-        _ => {
-            let at = kind as usize;
-            if at < 32 {
-                counts[at] = reading::more(counts[at]);
-            }
-        }
-    }
-}
-
-// What is counted at a line: the call that it closes, if that is replayed, or else the line itself.
-fn counted_at(kind: u32, call: Call, at: u64) -> Call {
-    if kind == 9 {
-        if calls::is_replayed(call.kind) {
-            return call;
-        }
-    }
-    Call { kind: kind, at: at }
-}
-
-fn count(counts: &mut [u64; 32], kind: u32, call: Call, tally: Tally, verdict: Verdict) -> Tally {
-    let about = counted_at(kind, call, tally.lines);
-    count_kind(counts, about.kind, verdict);
-    verdict::counted(tally, about.kind, about.at, verdict)
-}
-
 // What is kept from line to line, beside the tables and the counts of each kind.
 struct Run {
     kept: Kept,
@@ -95,11 +54,11 @@ fn take_line(
     let kept = run.kept;
     let call = kept.call;
     let before = run.tally;
-    let tally = verdict::with_line(before);
+    let tally = tally::with_line(before);
     if !is_in_form(line, read) {
         return Run {
             kept: kept,
-            tally: verdict::counted(tally, 0, 0, Verdict::Fault),
+            tally: tally::faulted(tally),
         };
     }
     let step = take::take(line, tables, generations, kept, tally.lines);
@@ -107,7 +66,7 @@ fn take_line(
     let verdict = step.verdict;
     Run {
         kept: after,
-        tally: count(counts, line[0], call, tally, verdict),
+        tally: tally::count(counts, line[0], call, tally, verdict),
     }
 }
 
@@ -150,7 +109,7 @@ fn read_all(counts: &mut [u64; 32]) -> Tally {
     let mut pass = Pass {
         run: Run {
             kept: take::nothing_yet(&line),
-            tally: verdict::none_yet(),
+            tally: tally::none_yet(),
         },
         reading: reading::unread(),
     };
@@ -173,5 +132,5 @@ fn read_all(counts: &mut [u64; 32]) -> Tally {
 fn main() {
     let mut counts = [0u64; 32];
     let tally = read_all(&mut counts);
-    report::report(&counts, tally);
+    tally::report(&counts, tally);
 }

@@ -1,21 +1,9 @@
 // Takes the lines of the list one by one. A call is opened by its line, told of by changes of the state, and closed by a
 // line of kind 9, where our state is held against the one that was told.
-use crate::agree;
-use crate::calls;
-use crate::calls::Given;
-use crate::leaves;
-use crate::looks;
-use crate::told;
-use crate::verdict;
-use crate::verdict::Verdict;
-use geometry::Size;
+use calls::Given;
 use steps::Head;
-
-// The call that is open: its kind, 0 where none is, and its line.
-pub struct Call {
-    pub kind: u32,
-    pub at: u64,
-}
+use tally::Call;
+use tally::Verdict;
 
 // What is kept from line to line beside the tables: the head that the list tells of, what our last call gave, and the call
 // that is open.
@@ -31,10 +19,6 @@ pub struct Step {
     pub verdict: Verdict,
 }
 
-fn no_call() -> Call {
-    Call { kind: 0, at: 0 }
-}
-
 // What is kept before the first line.
 pub fn nothing_yet(line: &[u32; 128]) -> Kept {
     let head = told::untold(told::size_on(line), told::options_on(line));
@@ -44,7 +28,7 @@ pub fn nothing_yet(line: &[u32; 128]) -> Kept {
             agrees: true,
             head: head,
         },
-        call: no_call(),
+        call: tally::no_call(),
     }
 }
 
@@ -55,13 +39,7 @@ fn fault(kept: Kept) -> Step {
     }
 }
 
-fn with_sheet(head: Head, sheet: Size) -> Head {
-    let mut after = head;
-    after.sheet = sheet;
-    after
-}
-
-// The head that is told of after a line of kind 1, 2, 3, 5 or 6, as far as that line says it.
+// The head that is told of after a line of kind 1 to 6, as far as that line says it.
 fn told_after(
     line: &[u32; 128],
     tables: &mut [[u32; 2048]; 8],
@@ -74,6 +52,9 @@ fn told_after(
             told::forget(tables, generations);
             after = told::untold(told::size_on(line), told::options_on(line));
         }
+        4 => {
+            after.sheet = told::size_on(line);
+        }
         6 => {
             after.sheet = told::size_on(line);
             after.options = told::options_on(line);
@@ -83,7 +64,7 @@ fn told_after(
     after
 }
 
-// 1 w h aw ah small large, 2 w h answer ticket x0 y0 x1 y1, 3 ticket, 5, and 6 w h aw ah small large
+// 1 w h aw ah small large, 2 w h answer ticket x0 y0 x1 y1, 3 ticket, 4 w h, 5, and 6 w h aw ah small large
 fn open(
     line: &[u32; 128],
     tables: &mut [[u32; 2048]; 8],
@@ -113,35 +94,6 @@ fn open(
     }
 }
 
-// 4 w h
-fn open_later(line: &[u32; 128], kept: Kept, at: u64) -> Step {
-    let call = kept.call;
-    let head = kept.told;
-    if call.kind != 0 {
-        return fault(kept);
-    }
-    let last = kept.ours;
-    Step {
-        kept: Kept {
-            told: with_sheet(head, told::size_on(line)),
-            ours: last,
-            call: Call {
-                kind: line[0],
-                at: at,
-            },
-        },
-        verdict: Verdict::Later,
-    }
-}
-
-// What is found of the line that tells of a call of this kind.
-fn telling(kind: u32) -> Verdict {
-    if calls::is_replayed(kind) {
-        return Verdict::Told;
-    }
-    Verdict::Later
-}
-
 // 10 to 14
 fn change(
     line: &[u32; 128],
@@ -161,7 +113,7 @@ fn change(
     after.told = told::changed(line, head);
     Step {
         kept: after,
-        verdict: telling(call.kind),
+        verdict: Verdict::Told,
     }
 }
 
@@ -193,12 +145,12 @@ fn is_same(
 // What is kept once the call is closed.
 fn closed(kept: Kept) -> Kept {
     let mut after = kept;
-    after.call = no_call();
+    after.call = tally::no_call();
     after
 }
 
-// 9 empty
-fn close(
+// What is found of a line 9 empty.
+fn found(
     line: &[u32; 128],
     tables: &[[u32; 2048]; 8],
     generations: &[[u8; 256]; 2],
@@ -210,14 +162,25 @@ fn close(
     if !is_due(line, call) {
         return Verdict::Fault;
     }
-    if !looks::is_empty_as_told(line, tables, generations, head) {
+    if !calls::is_empty_as_told(line, tables, generations, head) {
         return Verdict::Differs;
     }
-    if !calls::is_replayed(call.kind) {
-        return Verdict::Agrees;
-    }
     let same = is_same(tables, generations, head, ours);
-    verdict::told(same)
+    tally::told(same)
+}
+
+// 9 empty
+fn close(
+    line: &[u32; 128],
+    tables: &[[u32; 2048]; 8],
+    generations: &[[u8; 256]; 2],
+    kept: Kept,
+) -> Step {
+    let verdict = found(line, tables, generations, kept);
+    Step {
+        kept: closed(kept),
+        verdict: verdict,
+    }
 }
 
 // What is found of a line that is about no call.
@@ -230,6 +193,14 @@ fn leaf(line: &[u32; 128]) -> Verdict {
     }
 }
 
+// Whether a line of this kind tells of a change.
+fn is_change(kind: u32) -> bool {
+    if kind < 10 {
+        return false;
+    }
+    kind <= 14
+}
+
 // Takes a line that has as many numbers as its kind asks.
 pub fn take(
     line: &[u32; 128],
@@ -238,17 +209,15 @@ pub fn take(
     kept: Kept,
     at: u64,
 ) -> Step {
-    match line[0] {
-        1 | 2 | 3 | 5 | 6 => open(line, tables, generations, kept, at),
-        4 => open_later(line, kept, at),
-        9 => {
-            let verdict = close(line, tables, generations, kept);
-            Step {
-                kept: closed(kept),
-                verdict: verdict,
-            }
-        }
-        10..=14 => change(line, tables, generations, kept),
+    let kind = line[0];
+    if tally::is_call(kind) {
+        return open(line, tables, generations, kept, at);
+    }
+    if is_change(kind) {
+        return change(line, tables, generations, kept);
+    }
+    match kind {
+        9 => close(line, tables, generations, kept),
         _ => Step {
             kept: kept,
             verdict: leaf(line),

@@ -1,4 +1,1 @@
 pub mod Tests
-pub mod Marks
-pub mod FirstLaws
-pub mod MarkLaws

@@ -1,16 +1,11 @@
 // Start, clear and reset.
 use geometry::AllocatorOptions;
 use geometry::Size;
+use outcomes::Outcome;
 use steps::Head;
 ghost use mathlib.Core.Path.{_≡_};
 ghost use Rattle.steps.specs.State.{state};
 ghost use Rattle.starts.specs.Starts.{outcome, startCall, clearCall};
-
-// A number of the paper's list, with the head after the call.
-pub struct Begun {
-    pub answer: u32,
-    pub head: Head,
-}
 
 // A new sheet, whatever the tables held. 1: a table length is out of range; 3: the setup is invalid; both change nothing.
 pub fn start(
@@ -22,7 +17,7 @@ pub fn start(
     head: Head,
     sheet: Size,
     options: AllocatorOptions,
-) -> Begun
+) -> Outcome
     ensures { λ r. ⌜ outcome (r .answer) (state (r .head) (now (words .exit)) (now (generations .exit)) (now (small .exit)) (now (medium .exit)) (now (large .exit)))
         ≡ startCall sheet options (state head (now (words .entry)) (now (generations .entry)) (now (small .entry)) (now (medium .entry)) (now (large .entry))) ⌝ }
 {
@@ -33,19 +28,19 @@ pub fn start(
         medium.len(),
         large.len(),
     ) {
-        return Begun {
+        return Outcome {
             answer: 1,
             head: head,
         };
     }
     if !geometry::is_valid(sheet, options) {
-        return Begun {
+        return Outcome {
             answer: 3,
             head: head,
         };
     }
     let after = sheets::begin(words, generations, small, medium, large, sheet, options);
-    Begun {
+    Outcome {
         answer: 0,
         head: after,
     }
@@ -61,7 +56,7 @@ pub fn reset(
     head: Head,
     sheet: Size,
     options: AllocatorOptions,
-) -> Begun
+) -> Outcome
     ensures { λ r. ⌜ outcome (r .answer) (state (r .head) (now (words .exit)) (now (generations .exit)) (now (small .exit)) (now (medium .exit)) (now (large .exit)))
         ≡ startCall sheet options (state head (now (words .entry)) (now (generations .entry)) (now (small .entry)) (now (medium .entry)) (now (large .entry))) ⌝ }
 {
@@ -85,7 +80,7 @@ pub fn clear(
     medium: &mut [u32],
     large: &mut [u32],
     head: Head,
-) -> Begun
+) -> Outcome
     ensures { λ r. ⌜ outcome (r .answer) (state (r .head) (now (words .exit)) (now (generations .exit)) (now (small .exit)) (now (medium .exit)) (now (large .exit)))
         ≡ clearCall (state head (now (words .entry)) (now (generations .entry)) (now (small .entry)) (now (medium .entry)) (now (large .entry))) ⌝ }
 {

@@ -1,5 +1,3 @@
-pub mod Views
-pub mod Fills
-pub mod ListingLaws
 pub mod EmptyLaws
+pub mod Views
 pub mod ViewsWhen

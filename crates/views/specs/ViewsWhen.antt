@@ -26,7 +26,8 @@ use Rattle.sound.specs.Sound.{Sound}
 use Rattle.lent.specs.Lent.{LentOf}
 use Rattle.audit.specs.Answers.{Given, given}
 use Rattle.audit.specs.AnswerLaws.{answers-cases, answers-1, answers-2, answers-other, answers-sound, answers-refused, on-sound}
-use Rattle.views.specs.Views.{entries, Filled, filled, writtenOver, listAnswer, listFilled, listing, ListCall, WholeFree, OnlyFree, EmptyCall}
+use Rattle.listings.specs.Listings.{entries, Filled, filled, writtenOver, listAnswer, listFilled}
+use Rattle.views.specs.Views.{listing, ListCall, WholeFree, OnlyFree, EmptyCall}
 use Rattle.views.specs.EmptyLaws.{whole-free-at-root, whole-free-only}
 
 -- TICKETS. The ticket that the Alloc listing has for a slot is live,

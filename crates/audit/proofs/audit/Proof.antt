@@ -1,7 +1,7 @@
 use Rattle.steps.specs.State.{state}
 use mathlib.Core.Path.{sym, _∙_}
 use borrow.Author.Tests.{not-true, not-false}
-use Rattle.audit.specs.CountLaws.{numbers-ready, numbers-table}
+use Rattle.counted.specs.CountLaws.{numbers-ready, numbers-table}
 use Rattle.audit.specs.AuditLaws.{audit-numbers, audit-entries, audit-spare, audit-tree-ready, audit-judged}
 use borrow.Author.Needs.{needs}
 use Rattle.audit.proofs.audit.Statement.{statement}

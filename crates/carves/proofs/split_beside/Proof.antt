@@ -1,7 +1,7 @@
 -- `carves::split_beside` meets its contract: the new slot, the link to it, and the link back.
 -- Assumes nothing.
 use Rattle.grants.specs.Carves.{beside}
-use Rattle.carves.specs.RoomLaws.{link-stored}
+use Rattle.pairs.specs.PairLaws.{link-stored}
 use borrow.Author.Needs.{needs}
 use Rattle.carves.proofs.split_beside.Statement.{statement}
 use Rattle.carves.proofs.split_beside.Tie as tie

@@ -1,6 +1,7 @@
 -- `carves::take_slots` meets its contract: each new slot is the one that the model takes from what the one before it left.
 -- Assumes nothing.
-use Rattle.carves.specs.RoomLaws.{can-more, can-two, can-two-more, along-news, along-left-news, across-news, across-left-news}
+use Rattle.pairs.specs.PairLaws.{can-more, can-two, can-two-more}
+use Rattle.carves.specs.RoomLaws.{along-news, along-left-news, across-news, across-left-news}
 use Rattle.grants.specs.Carves.{newsOf}
 use borrow.Author.Needs.{needs}
 use Rattle.carves.proofs.take_slots.Statement.{statement}

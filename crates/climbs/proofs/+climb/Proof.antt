@@ -11,8 +11,8 @@ use borrow.Fn.PlainCycle.{Measures, is, falls, and}
 use Rattle.climbs.proofs.climb.Reads as climb
 use Rattle.climbs.proofs.climb.Kinds as climb-kinds
 use Rattle.climbs.proofs.+climb.Lts-climb as climb-lts
-use Rattle.climbs.proofs.absorb_into_prev.Reads as absorb-into-prev-reads
-use Rattle.climbs.proofs.absorb_next.Reads as absorb-next-reads
+use Rattle.absorbing.proofs.absorb_into_prev.Reads as absorb-into-prev-reads
+use Rattle.absorbing.proofs.absorb_next.Reads as absorb-next-reads
 use Rattle.climbs.proofs.give_up.Reads as give-up-reads
 use Rattle.climbs.proofs.is_only_child.Reads as is-only-child-reads
 use Rattle.climbs.proofs.+climb.{statement}

@@ -7,11 +7,11 @@ use Rattle.damaged.proofs.read_all.Statement.{statement}
 use Rattle.damaged.proofs.read_all.Tie as tie
 
 abbrev Inv-loop : tie.InvT-loop
-Inv-loop rules₀ line₀ buffer₀ words₀ generations₀ small₀ medium₀ large₀ pass₀ turns₀ rules line buffer words generations small medium large pass turns =
+Inv-loop rules₀ line₀ buffer₀ words₀ generations₀ lists₀ pass₀ turns₀ rules line buffer words generations lists pass turns =
     pass .reading .end ≤ 65536
 
 abbrev μ-loop : tie.MeasureT-loop
-μ-loop rules₀ line₀ buffer₀ words₀ generations₀ small₀ medium₀ large₀ pass₀ turns₀ rules line buffer words generations small medium large pass turns =
+μ-loop rules₀ line₀ buffer₀ words₀ generations₀ lists₀ pass₀ turns₀ rules line buffer words generations lists pass turns =
     turns
 
 large-buffer-requires : tie.Need-large-buffer-requires Inv-loop μ-loop

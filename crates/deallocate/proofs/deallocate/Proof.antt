@@ -3,9 +3,9 @@
 use mathlib.Core.Path.{refl}
 use native.Mathlib.Omega.{arith}
 use Rattle.steps.specs.State.{state}
-use Rattle.audit.specs.AnswerLaws.{answers-checked}
+use Rattle.audit.specs.AnswerLaws.{answers-checked, leaves-refused}
 use Rattle.lookup.specs.HeldLaws.{checked-held}
-use Rattle.deallocate.specs.DeallocateLaws.{leaves-refused, live-releasable, leaves-freed}
+use Rattle.deallocate.specs.DeallocateLaws.{live-releasable, leaves-freed}
 use borrow.Author.Needs.{needs}
 use Rattle.deallocate.proofs.deallocate.Statement.{statement}
 use Rattle.deallocate.proofs.deallocate.Tie as tie
@@ -46,7 +46,7 @@ same-length-8 : tie.Need-same-length-8
 same-length-8 c = search needs
 
 returns-2 : tie.Need-returns-2
-returns-2 c = leaves-refused _ _ (c .before .before .before .before .check .ensures) (c .before .before .before .if1 .left) (c .before .ticket-answer .ensures) (λ e. omega (arith, c .if2 .taken))
+returns-2 c = leaves-refused _ (c .before .before .before .before .check .ensures) (c .before .before .before .if1 .left) (c .before .ticket-answer .ensures) (λ e. omega (arith, c .if2 .taken))
 
 get-index-requires : tie.Need-get-index-requires
 get-index-requires c κs = search needs

@@ -19,14 +19,14 @@ use Rattle.places.proofs.place_of_slot.Reads as place-of-slot
 use Rattle.places.proofs.place_of_slot.Kinds as place-of-slot-kinds
 use Rattle.places.proofs.+place_of_chain+place_of_container+place_of_slot.Lts-place_of_slot as place-of-slot-lts
 use Rattle.geometry.proofs.flipped.Reads as flipped-reads
-use Rattle.places.proofs.added.Reads as added-reads
-use Rattle.places.proofs.is_held.Reads as is-held-reads
+use Rattle.joins.proofs.added.Reads as added-reads
+use Rattle.standing.proofs.is_held.Reads as is-held-reads
 use Rattle.places.proofs.line_below.Reads as line-below-reads
-use Rattle.places.proofs.nothing_yet.Reads as nothing-yet-reads
-use Rattle.places.proofs.out_of_slots.Reads as out-of-slots-reads
-use Rattle.places.proofs.own_place.Reads as own-place-reads
-use Rattle.places.proofs.stands.Reads as stands-reads
-use Rattle.places.proofs.stored_as.Reads as stored-as-reads
+use Rattle.joins.proofs.nothing_yet.Reads as nothing-yet-reads
+use Rattle.joins.proofs.out_of_slots.Reads as out-of-slots-reads
+use Rattle.joins.proofs.own_place.Reads as own-place-reads
+use Rattle.standing.proofs.stands.Reads as stands-reads
+use Rattle.joins.proofs.stored_as.Reads as stored-as-reads
 use Rattle.table.proofs.node_at.Reads as node-at-reads
 use Rattle.slots.proofs.same_kind.Reads as same-kind-reads
 use Rattle.places.proofs.+place_of_chain+place_of_container+place_of_slot.{statement}

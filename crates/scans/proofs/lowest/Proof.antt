@@ -3,8 +3,9 @@ use mathlib.Core.Path.{_≡_, sym, _∙_}
 use native.Mathlib.Omega.{arith}
 use native.Mathlib.Nat.{sub-zero}
 use borrow.Author.Tests.{not-true, not-false}
-use Rattle.scans.specs.Tests.{firstFrom, holdsAt}
-use Rattle.scans.specs.FirstLaws.{scan-on, scan-here, scan-end}
+use Rattle.below.specs.Below.{firstFrom}
+use Rattle.scans.specs.Tests.{holdsAt}
+use Rattle.below.specs.FirstLaws.{scan-on, scan-here, scan-end}
 use Rattle.scans.proofs.lowest.Statement.{statement}
 use Rattle.scans.proofs.lowest.Tie as tie
 

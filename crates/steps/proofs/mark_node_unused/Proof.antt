@@ -14,7 +14,7 @@ same-length c = search needs
 
 returns : tie.Need-returns
 unfolding markedUnused
-returns c = cc
+returns c = rw (c .before .before .set-next .ensures, c .before .before .before .before .before .before .set-kind .ensures)
 
 pub mark-node-unused-spec : {M : Type 1} → statement M
 mark-node-unused-spec =

@@ -1,0 +1,43 @@
+-- `ferrunchju::ferrunchju_deallocate` meets its contract: what the call ensures, of the head that the words held and the one that was written over them.
+-- Assumes nothing.
+use Rattle.ferrunchju.specs.HeadLaws.{deallocate-short}
+use borrow.Author.Needs.{needs}
+use Rattle.ferrunchju.proofs.ferrunchju_deallocate.Statement.{statement}
+use Rattle.ferrunchju.proofs.ferrunchju_deallocate.Tie as tie
+
+head-of-requires : tie.Need-head-of-requires
+head-of-requires c κs = search needs
+
+deallocate-requires : tie.Need-deallocate-requires
+deallocate-requires c κs = search needs
+
+put-head-requires : tie.Need-put-head-requires
+put-head-requires c κs = deallocate-short _ (c .before .before .before .before .before .before .before .before .before .deallocate .ensures) (c .before .before .before .before .before .before .before .before .before .before .before .before .before .before .head-of .ensures .1)
+
+same-length : tie.Need-same-length
+same-length c = search needs
+
+same-length-2 : tie.Need-same-length-2
+same-length-2 c = search needs
+
+same-length-3 : tie.Need-same-length-3
+same-length-3 c = search needs
+
+same-length-4 : tie.Need-same-length-4
+same-length-4 c = search needs
+
+returns : tie.Need-returns
+returns c = rw (c .put-head .ensures, ← c .before .before .before .before .before .before .before .before .before .before .before .before .before .before .before .head-of .ensures .0) (c .before .before .before .before .before .before .before .before .before .before .deallocate .ensures)
+
+pub ferrunchju-deallocate-spec : {M : Type 1} → statement M
+ferrunchju-deallocate-spec =
+    tie.close
+    (tie.spec
+    head-of-requires
+    deallocate-requires
+    put-head-requires
+    same-length
+    same-length-2
+    same-length-3
+    same-length-4
+    returns)

@@ -1,0 +1,80 @@
+-- After every call the list lengths fit words again: on a refusal the head is as it was read, and else the tables are sound.
+-- Assumes nothing.
+use mathlib.Core.Path.{_≡_}
+use mathlib.Core.Bool.{Bool, true, false}
+use mathlib.Core.List.{List}
+use Prim.Native.Nat.{ℕ}
+use native.Mathlib.Omega.{arith}
+use Rattle.geometry.specs.Buckets.{bucketOf}
+use Rattle.geometry.specs.Sides.{validSetup, setupOf}
+use Rattle.geometry.specs.declared.AllocatorOptions.{AllocatorOptions}
+use Rattle.geometry.specs.declared.Bucket.{Bucket}
+use Rattle.geometry.specs.declared.Bucket.the-variants.{Small, Medium, Large}
+use Rattle.geometry.specs.declared.Size.{Size}
+use Rattle.tickets.specs.declared.AllocId.{AllocId}
+use Rattle.lists.specs.Lists.{appended}
+use Rattle.buckets.specs.FreeLists.{listOf, withList}
+use Rattle.steps.specs.State.{State}
+use Rattle.sound.specs.Sound.{Sound}
+use Rattle.lent.specs.Lent.{lent, LentOf}
+use Rattle.audit.specs.Answers.{Given, Answers}
+use Rattle.audit.specs.AnswerLaws.{answers-cases}
+use Rattle.sheets.specs.Sheets.{noEntries, stateWith, started}
+use Rattle.starts.specs.Starts.{Outcome, startAnswer, startCall, clearCall}
+use Rattle.heads.specs.Words.{ShortLists}
+use Rattle.allocate.specs.Allocate.{Crop, AllocateCall}
+use Rattle.allocate.specs.AllocateWhen.{allocate-keeps-sound}
+use Rattle.deallocate.specs.Deallocate.{DeallocateCall}
+use Rattle.deallocate.specs.DeallocateWhen.{deallocate-keeps-sound}
+use Rattle.grow.specs.Grow.{GrowCall}
+use Rattle.grow.specs.GrowWhen.{grow-keeps-sound}
+
+-- On sound tables with lengths in range a list has at most 16,384 entries.
+pub sound-short : {s : State} → Sound s → LentOf s → ShortLists (s .head)
+sound-short S L =
+    record {
+      small = let h = S .rule1 .within Small in let k = L .small .few in omega arith;
+      medium = let h = S .rule1 .within Medium in let k = L .medium .few in omega arith;
+      large = let h = S .rule1 .within Large in let k = L .large .few in omega arith;
+    }
+
+-- A call that checks first, and keeps sound tables sound.
+pub answers-short : {A : Type 0} {nothing : A} {s : State} {core o : Given A} → Answers nothing s core o
+    → (LentOf s → Sound s → Sound (o .after) × LentOf (o .after)) → ShortLists (s .head) → ShortLists (o .after .head)
+answers-short {A} {s = s} call keeps short =
+    answers-cases call (λ (g : Given A). (LentOf s → Sound s → Sound (g .after) × LentOf (g .after)) → ShortLists (g .after .head)) (λ _ _. short) (λ _ _ _. short)
+    (λ L S k. let h = k L S in sound-short (h .0) (h .1)) keeps
+
+pub allocate-short : (size : Size) {s : State} {o : Given Crop} → AllocateCall size s o → ShortLists (s .head) → ShortLists (o .after .head)
+allocate-short size {s} call = answers-short call (allocate-keeps-sound s size call)
+
+pub deallocate-short : (t : AllocId) {s : State} {o : Given (Unit {0})} → DeallocateCall s t o → ShortLists (s .head) → ShortLists (o .after .head)
+deallocate-short t {s} call = answers-short call (deallocate-keeps-sound s t call)
+
+pub grow-short : (new : Size) {s : State} {o : Given (Unit {0})} → GrowCall s new o → ShortLists (s .head) → ShortLists (o .after .head)
+grow-short new {s} call = answers-short call (grow-keeps-sound s new call)
+
+-- A new sheet has one entry.
+entered-short : (b : Bucket) (sheet : Size) (options : AllocatorOptions) (w g x y z : List ℕ)
+    → ShortLists (stateWith sheet options w g (withList b (appended (listOf b (noEntries x y z)) 0) (noEntries x y z)) .head)
+entered-short Small sheet options w g x y z = record { small = omega arith; medium = omega arith; large = omega arith }
+entered-short Medium sheet options w g x y z = record { small = omega arith; medium = omega arith; large = omega arith }
+entered-short Large sheet options w g x y z = record { small = omega arith; medium = omega arith; large = omega arith }
+
+started-short : (sheet : Size) (options : AllocatorOptions) (w g x y z : List ℕ) → ShortLists (started sheet options w g x y z .head)
+unfolding started
+started-short sheet options w g x y z =
+    let s = setupOf sheet options in entered-short (bucketOf (s .small) (s .large) (s .sheet .width) (s .sheet .height)) sheet options w g x y z
+
+pub start-short : (sheet : Size) (options : AllocatorOptions) (s : State) {o : Outcome} → o ≡ startCall sheet options s → ShortLists (s .head) → ShortLists (o .after .head)
+unfolding startCall
+start-short sheet options s e short = rw e (go (lent s) (validSetup sheet options))
+  where
+    go : (l v : Bool) → ShortLists (startAnswer l v sheet options s .after .head)
+    go true true = started-short sheet options (s .words) (s .generations) (s .small) (s .medium) (s .large)
+    go true false = short
+    go false v = short
+
+pub clear-short : (s : State) {o : Outcome} → o ≡ clearCall s → ShortLists (s .head) → ShortLists (o .after .head)
+unfolding clearCall
+clear-short s = start-short (s .head .sheet) (s .head .options) s

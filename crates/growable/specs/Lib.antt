@@ -1,0 +1,3 @@
+pub mod Growable
+pub mod GrowableLaws
+pub mod Needs

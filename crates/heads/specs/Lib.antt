@@ -1,0 +1,4 @@
+pub mod Words
+pub mod SignedLaws
+pub mod WordLaws
+pub mod Once

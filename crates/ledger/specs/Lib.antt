@@ -1,0 +1,3 @@
+pub mod Days
+pub mod Ledger
+pub mod LedgerHolds

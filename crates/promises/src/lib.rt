@@ -1,0 +1,2 @@
+// The promises, in mathematics alone: specs/. There is no code here.
+pub fn nothing() {}
