@@ -1,34 +1,16 @@
 //! Times the check on sound tables against one copy of the same tables, and looks for the least stack that it and deallocate run in.
 
-mod check;
-mod sheets;
-
-use check::{check, deallocate};
+use bench::lent::Bare;
+use bench::{median, sheets};
 use model::rules::audit;
 use model::tables::{Kind, Tables};
 use std::hint::black_box;
 use std::process::{Command, Stdio};
-use std::time::Instant;
-
-const SAMPLES: usize = 1_001;
-
-/// The median time of one call in nanoseconds. Each is timed by itself, so that a call during which the machine turned to
-/// something else is one long sample and no more.
-fn median(mut call: impl FnMut()) -> f64 {
-    let mut times: Vec<u128> = (0..SAMPLES)
-        .map(|_| {
-            let begun = Instant::now();
-            call();
-            begun.elapsed().as_nanos()
-        })
-        .collect();
-    times.sort_unstable();
-    times[SAMPLES / 2] as f64
-}
 
 fn time_check(tables: &Tables) -> f64 {
-    assert_eq!(check(tables), 0);
-    median(|| assert_eq!(check(black_box(tables)), 0))
+    let mut bare = Bare::of(tables);
+    assert_eq!(bare.check(), 0);
+    median(|| assert_eq!(black_box(&mut bare).check(), 0))
 }
 
 /// One copy of the five tables into others of the same lengths.
@@ -102,11 +84,12 @@ fn last_ticket(tables: &Tables) -> u32 {
 
 /// Runs the check, or deallocate of the last ticket, in a thread with this much stack; a thread that runs over it ends the process.
 fn run_in(call: &str, stack: usize, name: &str, slots: u32) {
-    let mut tables = made(name, slots);
+    let tables = made(name, slots);
     let thread = std::thread::Builder::new().stack_size(stack);
     let frees = call == "deallocate";
     let ticket = last_ticket(&tables);
-    let run = move || if frees { deallocate(&mut tables, ticket) } else { check(&tables) };
+    let mut bare = Bare::of(&tables);
+    let run = move || if frees { bare.lend().deallocate(ticket) } else { bare.check() };
     let answer = thread.spawn(run).expect("a thread").join().expect("an answer");
     assert_eq!(answer, 0);
 }
