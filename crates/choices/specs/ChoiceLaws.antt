@@ -17,12 +17,12 @@ use Rattle.choices.specs.Choices.{chosenOf, ScanAnswer, scanAnswer, scan
 
 -- The scan of a list that is ready ends with its best candidate in the table.
 pub scan-best : (w : List ℕ) (q : Query) (l : Bag) (o : Scanned) → o ≡ scanAll w q (l .table) (l .len)
-    → Ready w (scanned (first (l .len)) (l .table)) → BestWithin (o .scan .best) (o .table)
+    → Ready w (scanned (first (l .len)) (l .table)) → BestWithin (o .scan .best) (o .scan .place) (o .table)
 scan-best w q l o e r = rw e (scanning-best w q (scanAll w q (l .table) (l .len)) (scan-scans w q (l .table) (l .len) (r .within)))
 
 -- The scan of a bucket's list, by the scan and the answer read off it.
 pub bucket-scanned : (w : List ℕ) (q : Query) (b : Bucket) (l : Bag) (o : Scanned) (c : Chosen) → o ≡ scanAll w q (l .table) (l .len)
-    → c ≡ chosenOf b (o .scan .best) (o .table) → scanAnswer c (listIn o) ≡ scanBucket w q b l
+    → c ≡ chosenOf b (o .scan .best) (o .scan .place) (o .table) → scanAnswer c (listIn o) ≡ scanBucket w q b l
 unfolding scanBucket
 bucket-scanned w q b l o c e f = rw (f, e)
 

@@ -17,9 +17,9 @@ use Rattle.choices.specs.declared.Chosen.{Chosen}
 use Rattle.choices.specs.declared.Chosen.the-variants.{At, Nothing}
 
 -- The entry at the best candidate's place, as the answer. It stays in the list.
-abbrev pub chosenOf : Bucket → Best → List ℕ → Chosen
-chosenOf b (best.At k) t = At (slot (getD t k 0)) b k
-chosenOf b best.Nothing t = Nothing
+abbrev pub chosenOf : Bucket → Best → ℕ → List ℕ → Chosen
+chosenOf b best.Found k t = At (slot (getD t k 0)) b k
+chosenOf b best.Nothing k t = Nothing
 
 -- What the scan of one bucket's list answers, and the list as it left it.
 pub record ScanAnswer : Type 0 where
@@ -32,7 +32,7 @@ scanAnswer c b = record { chosen = c; list = b }
 unfoldable pub scanBucket : List ℕ → Query → Bucket → Bag → ScanAnswer
 scanBucket w q b l =
     let o = scanAll w q (l .table) (l .len) in
-    scanAnswer (chosenOf b (o .scan .best) (o .table)) (bag (o .table) (o .scan .len))
+    scanAnswer (chosenOf b (o .scan .best) (o .scan .place) (o .table)) (bag (o .table) (o .scan .len))
 
 -- What a search answers, and the lists as it left them.
 pub record Searched : Type 0 where

@@ -23,12 +23,12 @@ pub struct Search {
 }
 
 // The entry at the best candidate's place, as the answer.
-fn chosen_of(list: &[u32], best: Best, bucket: Bucket) -> Chosen
-    requires { ⌜ BestWithin best (now list) ⌝ }
-    ensures { λ r. ⌜ r ≡ chosenOf bucket best (now (list .entry)) ⌝ }
+fn chosen_of(list: &[u32], best: Best, place: usize, bucket: Bucket) -> Chosen
+    requires { ⌜ BestWithin best place (now list) ⌝ }
+    ensures { λ r. ⌜ r ≡ chosenOf bucket best place (now (list .entry)) ⌝ }
 {
     match best {
-        Best::At(k) => Chosen::At(AllocIndex(list[k]), bucket, k),
+        Best::Found => Chosen::At(AllocIndex(list[place]), bucket, place),
         Best::Nothing => Chosen::Nothing,
     }
 }
@@ -46,7 +46,7 @@ fn scan_bucket(words: &[u32], list: &mut [u32], len: usize, bucket: Bucket, q: Q
     let s = fits::scan_list(words, list, len, q);
     let best = s.best;
     Answer {
-        chosen: chosen_of(list, best, bucket),
+        chosen: chosen_of(list, best, s.place, bucket),
         len: s.len,
     }
 }

@@ -1,7 +1,7 @@
 // What the program writes: a call with its answer, a ticket, a rectangle, a list, a slot.
 use geometry::Rectangle;
-use taking::Allocation;
 use steps::Head;
+use taking::Allocation;
 
 // A side, in words if it is below 0.
 fn side(n: i32) {

@@ -4,11 +4,11 @@
 use mathlib.Core.Path.{_≡_, refl, sym}
 use mathlib.Core.Bool.{Bool, true, false}
 use mathlib.Core.List.{List}
-use Prim.Native.Nat.{ℕ, zero, suc, _-_, _<_, _≤_}
+use Prim.Native.Nat.{ℕ, zero, suc, _+_, _-_, _<_, _≤_}
 use native.Mathlib.Omega.{arith}
 use lib.ListN.{length}
-use lib.Dec.{eqb, ltb}
-use borrow.Author.Tests.{ltb-true, ltb-false, le-ltb, lt-ltb}
+use lib.Dec.{eqb, ltb, leb}
+use borrow.Author.Tests.{leb-true, leb-false, le-leb, lt-leb, ltb-true, ltb-false, le-ltb, lt-ltb}
 use Rattle.geometry.specs.Choice.{pick-elim}
 use Rattle.geometry.specs.Rectangles.{widthOf, heightOf}
 use Rattle.geometry.specs.declared.Rectangle.{Rectangle}
@@ -22,7 +22,7 @@ use Rattle.fits.specs.declared.Scan.{Scan}
 use Rattle.fits.specs.declared.Best.{Best}
 use Rattle.fits.specs.declared.Best.the-variants.{Nothing}
 use Rattle.fits.specs.declared.Query.{Query}
-use Rattle.fits.specs.Scans.{better, scoreOf, passed, kept, ended, weighed, Scanned, scanned, entryAt, dropped, look, looking, Lookable, Ready}
+use Rattle.fits.specs.Scans.{lesser, better, scoreOf, shift, shiftedScore, passed, kept, ended, scored, weighed, Scanned, scanned, entryAt, dropped, look, looking, Lookable, Ready}
 use Rattle.fits.specs.Suits.{Suits}
 use Rattle.fits.specs.Thinned.{Thinned, thinned-itself, thinned-twice, each-thinned, dead-removed}
 
@@ -57,6 +57,35 @@ weighed-cases P s r q pass end keep =
     (λ z. pick-elim P (better (s .best) (s .score) (scoreOf r q) (q .worst)) _ _ (λ t. keep a b)
     (λ t. pass (λ c d. better-than-none (s .best) (s .score) (scoreOf r q) (q .worst) t)))))
 
+-- Two spare sides, shifted up: where the lesser is below the shift one side is too short, and else both are enough.
+lesser-short : (w h a b : ℕ) → lesser (w + shift - a) (h + shift - b) < shift → a ≤ w → h < b
+unfolding lesser
+lesser-short w h a b =
+    pick-elim (λ (n : ℕ). n < shift → a ≤ w → h < b) (leb (w + shift - a) (h + shift - b)) _ _ (λ t l e. omega arith) (λ t l e. omega arith)
+
+lesser-enough : (w h a b : ℕ) → shift ≤ lesser (w + shift - a) (h + shift - b)
+    → (a ≤ w) × (b ≤ h) × (lesser (w + shift - a) (h + shift - b) - shift ≡ lesser (w - a) (h - b))
+unfolding lesser
+lesser-enough w h a b =
+    pick-elim (λ (n : ℕ). shift ≤ n → (a ≤ w) × (b ≤ h) × (n - shift ≡ lesser (w - a) (h - b))) (leb (w + shift - a) (h + shift - b)) _ _
+    (λ t l. let z = leb-true (w + shift - a) (h + shift - b) t in (omega arith, omega arith, rw (le-leb (w - a) (h - b) (omega arith)) (omega arith)))
+    (λ t l. let z = leb-false (w + shift - a) (h + shift - b) t in (omega arith, omega arith, rw (lt-leb (w - a) (h - b) (omega arith)) (omega arith)))
+
+-- One test of the shifted score asks of both sides.
+module _ (s : Scan) (r : Rectangle) (q : Query) (n : ℕ) (e : n ≡ shiftedScore r q) where
+  pub short-passes : n < shift → weighed s r q ≡ passed s
+  unfolding weighed shiftedScore
+  short-passes h =
+      let f = lesser-short (widthOf r) (heightOf r) (q .width) (q .height) (rw e at h) in
+      pick-elim (λ (t : Scan). t ≡ passed s) (ltb (widthOf r) (q .width)) _ _ (λ t. refl)
+      (λ t. rw (lt-ltb (heightOf r) (q .height) (f (ltb-false (widthOf r) (q .width) t))))
+
+  pub enough-scores : shift ≤ n → weighed s r q ≡ scored s q (n - shift)
+  unfolding weighed shiftedScore
+  enough-scores h =
+      let f = lesser-enough (widthOf r) (heightOf r) (q .width) (q .height) (rw e at h) in
+      rw (le-ltb (widthOf r) (q .width) (f .0), le-ltb (heightOf r) (q .height) (f .1), e, f .2)
+
 -- The corners of a Free entry are in order.
 pub entry-corners : (w : List ℕ) (x : ℕ) (n : Node) → n ≡ nodeAt w (slot x) → Lookable w x → sameKind (n .kind) Free ≡ true
     → (n .rect .x0 ≤ n .rect .x1) × (n .rect .y0 ≤ n .rect .y1)
@@ -69,7 +98,7 @@ module _ (w : List ℕ) (q : Query) (o : Scanned) (n : Node) (en : n ≡ nodeAt 
   look-free s f e = rw (← en, f, e)
 
   pub look-dead : (b : Bag) → sameKind (n .kind) Free ≡ false → b ≡ removed (listIn o) (o .scan .at)
-      → scanned (record { len = b .len; at = o .scan .at; best = o .scan .best; score = o .scan .score }) (b .table) ≡ look w q o
+      → scanned (record { len = b .len; at = o .scan .at; best = o .scan .best; place = o .scan .place; score = o .scan .score }) (b .table) ≡ look w q o
   unfolding look
   look-dead b f e = rw (← en, f, e)
 

@@ -14,7 +14,7 @@ use Rattle.table.specs.Table.{nodeAt, HasSlot}
 use Rattle.slots.specs.declared.NodeKind.the-variants.{Free}
 use Rattle.lists.specs.Lists.{Bag, bag, removed, freeEntry, Each}
 use Rattle.fits.specs.declared.Best.{Best}
-use Rattle.fits.specs.declared.Best.the-variants.{At, Nothing}
+use Rattle.fits.specs.declared.Best.the-variants.{Found, Nothing}
 use Rattle.fits.specs.declared.Query.{Query}
 use Rattle.fits.specs.declared.Scan.{Scan}
 
@@ -24,8 +24,8 @@ lesser a b = pick (leb a b) a b
 -- Greatest wins if the request's bucket is large, least otherwise; the first of equals stays.
 unfoldable pub better : Best → ℕ → ℕ → Bool → Bool
 better Nothing score new worst = true
-better (At k) score new true = ltb score new
-better (At k) score new false = ltb new score
+better Found score new true = ltb score new
+better Found score new false = ltb new score
 
 -- The score: the lesser spare side. It is 0 where the fit is exact on one axis.
 abbrev pub scoreOf : Rectangle → Query → ℕ
@@ -33,22 +33,30 @@ scoreOf r q = lesser (widthOf r - q .width) (heightOf r - q .height)
 
 -- The scan goes on to the next place, with the same candidate or with the one at this place.
 abbrev pub passed : Scan → Scan
-passed s = record { len = s .len; at = s .at + 1; best = s .best; score = s .score }
+passed s = record { len = s .len; at = s .at + 1; best = s .best; place = s .place; score = s .score }
 
 abbrev pub kept : Scan → ℕ → Scan
-kept s score = record { len = s .len; at = s .at + 1; best = At (s .at); score = score }
+kept s score = record { len = s .len; at = s .at + 1; best = Found; place = s .at; score = score }
 
 -- A fit that is exact on one axis ends the scan at once.
 abbrev pub ended : Scan → Scan
-ended s = record { len = s .len; at = s .len; best = At (s .at); score = 0 }
+ended s = record { len = s .len; at = s .len; best = Found; place = s .at; score = 0 }
+
+-- What a rectangle that is wide and tall enough does to the scan, by its score.
+abbrev pub scored : Scan → Query → ℕ → Scan
+scored s q score = pick (eqb score 0) (ended s) (pick (better (s .best) (s .score) score (q .worst)) (kept s score) (passed s))
 
 -- What the entry of a Free rectangle does to the scan.
 unfoldable pub weighed : Scan → Rectangle → Query → Scan
 weighed s r q =
-    pick (ltb (widthOf r) (q .width)) (passed s)
-    (pick (ltb (heightOf r) (q .height)) (passed s)
-    (pick (eqb (scoreOf r q) 0) (ended s)
-    (pick (better (s .best) (s .score) (scoreOf r q) (q .worst)) (kept s (scoreOf r q)) (passed s))))
+    pick (ltb (widthOf r) (q .width)) (passed s) (pick (ltb (heightOf r) (q .height)) (passed s) (scored s q (scoreOf r q)))
+
+-- Both sides asked of by one test, as the code does it: the score, shifted up by 2^32, is below that where a side is too short (`short-passes`, `enough-scores`).
+abbrev pub shift : ℕ
+shift = 4294967296
+
+unfoldable pub shiftedScore : Rectangle → Query → ℕ
+shiftedScore r q = lesser (widthOf r + shift - q .width) (heightOf r + shift - q .height)
 
 -- A scan with its table.
 pub record Scanned : Type 0 where
@@ -66,7 +74,7 @@ entryAt o = getD (o .table) (o .scan .at) 0
 abbrev pub dropped : Scanned → Scanned
 dropped o =
     let b = removed (bag (o .table) (o .scan .len)) (o .scan .at) in
-    scanned (record { len = b .len; at = o .scan .at; best = o .scan .best; score = o .scan .score }) (b .table)
+    scanned (record { len = b .len; at = o .scan .at; best = o .scan .best; place = o .scan .place; score = o .scan .score }) (b .table)
 
 -- One look.
 unfoldable pub look : List ℕ → Query → Scanned → Scanned
@@ -79,7 +87,7 @@ looking w q (suc k) o = pick (ltb (o .scan .at) (o .scan .len)) (looking w q k (
 
 -- A scan begins at place 0, with no candidate.
 abbrev pub first : ℕ → Scan
-first len = record { len = len; at = 0; best = Nothing; score = 0 }
+first len = record { len = len; at = 0; best = Nothing; place = 0; score = 0 }
 
 -- The whole scan of a list. As many looks as it has entries are enough (`looking-enough`).
 abbrev pub scanAll : List ℕ → Query → List ℕ → ℕ → Scanned
@@ -96,6 +104,6 @@ pub record Ready (w : List ℕ) (o : Scanned) : Type 0 where
   pub entries : Each (Lookable w) (bag (o .table) (o .scan .len))
 
 -- The best candidate's place is in the table.
-abbrev pub BestWithin : Best → List ℕ → Type 0
-BestWithin (At k) t = k < length t
-BestWithin Nothing t = Unit {0}
+abbrev pub BestWithin : Best → ℕ → List ℕ → Type 0
+BestWithin Found k t = k < length t
+BestWithin Nothing k t = Unit {0}

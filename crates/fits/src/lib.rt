@@ -4,7 +4,7 @@ use slots::AllocIndex;
 use slots::NodeKind;
 ghost use mathlib.Core.Path.{_≡_};
 ghost use Prim.Native.Nat.{_≤_, _<_};
-ghost use Rattle.fits.specs.Scans.{lesser, better, weighed, scanned, first, look, scanAll, Ready};
+ghost use Rattle.fits.specs.Scans.{lesser, better, shiftedScore, weighed, scanned, first, look, scanAll, Ready};
 
 // What is looked for: a rectangle at least this wide and tall. The greatest lesser spare side wins where worst is set, else the least.
 pub struct Query {
@@ -13,21 +13,22 @@ pub struct Query {
     pub worst: bool,
 }
 
-// The place of the best candidate so far.
+// Whether there is a candidate so far. The best one's place stands beside it, in the scan.
 pub enum Best {
-    At(usize),
+    Found,
     Nothing,
 }
 
-// A scan of one list: its length, the next place to look at, and the best candidate with its score.
+// A scan of one list: its length, the next place to look at, and the best candidate with its place and its score.
 pub struct Scan {
     pub len: usize,
     pub at: usize,
     pub best: Best,
-    pub score: u32,
+    pub place: usize,
+    pub score: u64,
 }
 
-fn lesser(a: u32, b: u32) -> u32
+fn lesser(a: u64, b: u64) -> u64
     ensures { λ r. ⌜ r ≡ lesser a b ⌝ }
 {
     if a <= b {
@@ -37,11 +38,11 @@ fn lesser(a: u32, b: u32) -> u32
 }
 
 // Whether a score beats the best so far: the first candidate does, and of equals the first stays.
-fn is_better(best: Best, score: u32, new: u32, worst: bool) -> bool
+fn is_better(best: Best, score: u64, new: u64, worst: bool) -> bool
     ensures { λ r. ⌜ r ≡ better best score new worst ⌝ }
 {
     match best {
-        Best::At(_) => {
+        Best::Found => {
             if worst {
                 return score < new;
             }
@@ -49,6 +50,22 @@ fn is_better(best: Best, score: u32, new: u32, worst: bool) -> bool
         }
         Best::Nothing => true,
     }
+}
+
+// One more than the greatest u32.
+const SHIFT: u64 = 4294967296;
+
+// The score, shifted up. It stays below the shift where a side is too short, so that one test asks of both sides.
+fn shifted_score(r: Rectangle, q: Query) -> u64
+    requires { ⌜ (r .x0 ≤ r .x1) × (r .y0 ≤ r .y1) ⌝ }
+    ensures { λ n. ⌜ n ≡ shiftedScore r q ⌝ }
+{
+    let wide = (r.x1 - r.x0) as u64;
+    let tall = (r.y1 - r.y0) as u64;
+    lesser(
+        wide + SHIFT - (q.width as u64),
+        tall + SHIFT - (q.height as u64),
+    )
 }
 
 // What the entry of a Free rectangle does to the scan. A fit that is exact on one axis ends it.
@@ -60,30 +77,24 @@ fn weigh(s: Scan, r: Rectangle, q: Query) -> Scan
     let next = at + 1;
     let len = s.len;
     let best = s.best;
-    let wide = r.x1 - r.x0;
-    let tall = r.y1 - r.y0;
-    if wide < q.width {
+    let place = s.place;
+    let shifted = shifted_score(r, q);
+    if shifted < SHIFT {
         return Scan {
             len: len,
             at: next,
             best: best,
+            place: place,
             score: s.score,
         };
     }
-    if tall < q.height {
-        return Scan {
-            len: len,
-            at: next,
-            best: best,
-            score: s.score,
-        };
-    }
-    let score = lesser(wide - q.width, tall - q.height);
+    let score = shifted - SHIFT;
     if score == 0 {
         return Scan {
             len: len,
             at: len,
-            best: Best::At(at),
+            best: Best::Found,
+            place: at,
             score: 0,
         };
     }
@@ -91,7 +102,8 @@ fn weigh(s: Scan, r: Rectangle, q: Query) -> Scan
         return Scan {
             len: len,
             at: next,
-            best: Best::At(at),
+            best: Best::Found,
+            place: at,
             score: score,
         };
     }
@@ -99,6 +111,7 @@ fn weigh(s: Scan, r: Rectangle, q: Query) -> Scan
         len: len,
         at: next,
         best: best,
+        place: place,
         score: s.score,
     }
 }
@@ -123,6 +136,7 @@ fn look_at(words: &[u32], list: &mut [u32], s: Scan, q: Query) -> Scan
         len: less,
         at: at,
         best: best,
+        place: s.place,
         score: s.score,
     }
 }
@@ -136,6 +150,7 @@ pub fn scan_list(words: &[u32], list: &mut [u32], len: usize, q: Query) -> Scan
         len: len,
         at: 0,
         best: Best::Nothing,
+        place: 0,
         score: 0,
     };
     while s.at < s.len {

@@ -75,21 +75,21 @@ unfolding searchOne scanBucket
 one-answers w q b l r = answer _ (scan-scans w q (listOf b l .table) (listOf b l .len) (r b .within)) (looking-ends w q (listOf b l .len) _ (omega arith))
   where
     answer : (o : Scanned) → Scanning w q o → o .scan .len ≤ o .scan .at
-        → Answered w q (λ c. c ≡ b) (withList b (listIn o) l) (chosenOf b (o .scan .best) (o .table))
-    answer o s h = cases (o .scan .best) (s .so-far)
+        → Answered w q (λ c. c ≡ b) (withList b (listIn o) l) (chosenOf b (o .scan .best) (o .scan .place) (o .table))
+    answer o s h = cases (o .scan .best) (o .scan .place) (s .so-far)
       where
-        cases : (a : Best) → SoFar w q (o .table) (o .scan .at) a → Answered w q (λ c. c ≡ b) (withList b (listIn o) l) (chosenOf b a (o .table))
-        cases (best.At k) f =
+        cases : (a : Best) (k : ℕ) → SoFar w q (o .table) (o .scan .at) a k → Answered w q (λ c. c ≡ b) (withList b (listIn o) l) (chosenOf b a k (o .table))
+        cases best.Found k f =
             record {
               among = refl;
               place = rw (listOf-withList-same b (listIn o) l) (omega (arith, f .0, s .placed));
               entry = rw (listOf-withList-same b (listIn o) l);
               suits = f .1;
             }
-        cases best.Nothing f =
+        cases best.Nothing k f =
             λ c e x n z.
             let m : 0 < occurrences x (listIn o) = (rw (e, listOf-withList-same b (listIn o) l) at n) in
-            occurs-at x (listIn o) m (λ k g y. f k (omega arith) (rw (← y) at z))
+            occurs-at x (listIn o) m (λ j g y. f j (omega arith) (rw (← y) at z))
 
 -- The bucket decides: with a choice, or as the last.
 answered-here : (w : List ℕ) (q : Query) (b : Bucket) (l : Lists) (a : Chosen) → (a ≡ Nothing → 2 ≤ rank b)
