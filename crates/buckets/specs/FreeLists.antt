@@ -5,8 +5,8 @@ use Prim.Native.Nat.{ℕ, _≤_}
 use lib.ListN.{length}
 use Rattle.geometry.specs.declared.Bucket.{Bucket}
 use Rattle.geometry.specs.declared.Bucket.the-variants.{Small, Medium, Large}
-use Rattle.lists.specs.Lists.{Bag, bag, removed, firstOf}
-use Rattle.pushes.specs.Pushes.{pushed}
+use Rattle.lists.specs.Lists.{Bag, bag, appended, removed, firstOf}
+use Rattle.pushes.specs.Pushes.{swept, pushed}
 use Rattle.buckets.specs.declared.Lengths.{Lengths}
 use Rattle.lists.specs.declared.Found.{Found}
 use Rattle.lists.specs.declared.Found.the-variants.{At, Nothing}
@@ -35,6 +35,13 @@ withList Large b l = record { small = l .small; medium = l .medium; large = b }
 -- Every length is within its table.
 abbrev pub Within : Lists → Type 0
 Within l = (b : Bucket) → listOf b l .len ≤ length (listOf b l .table)
+
+-- An entry appended to a bucket's list, as it is and once it is swept.
+abbrev pub appendedIn : ℕ → Bucket → Lists → Lists
+appendedIn v b l = withList b (appended (listOf b l) v) l
+
+abbrev pub sweptAndAppendedIn : List ℕ → ℕ → Bucket → Lists → Lists
+sweptAndAppendedIn w v b l = withList b (appended (swept w v (listOf b l)) v) l
 
 -- A push onto a bucket's list.
 abbrev pub pushedTo : List ℕ → ℕ → Bucket → Lists → Lists

@@ -64,7 +64,13 @@ pub fn climb(words: &mut [u32], spare: AllocIndex, i: AllocIndex, left: u32) -> 
         let above = give_up(words, chain, at);
         let rest = above.spare;
         let parent = above.at;
-        return climb(words, rest, parent, left - 1);
+        let end = climb(words, rest, parent, left - 1);
+        let last = end.spare;
+        let top = end.at;
+        return Rung {
+            spare: last,
+            at: top,
+        };
     }
     Rung {
         spare: chain,

@@ -1,24 +1,25 @@
 -- The laws of a push: by its two branches, and what it keeps.
 -- Assumes nothing.
 use mathlib.Core.Path.{_≡_, refl}
+use mathlib.Core.Bool.{true, false}
 use mathlib.Core.List.{List}
 use Prim.Native.Nat.{ℕ, _≤_, _<_}
 use native.Mathlib.Omega.{arith}
 use lib.Dec.{ltb}
 use lib.ListN.{length}
-use borrow.Author.Tests.{lt-ltb, le-ltb, ltb-true, ltb-false}
+use borrow.Author.Tests.{lt-ltb, ltb-true, ltb-false}
 use Rattle.geometry.specs.Choice.{pick, pick-elim}
 use Rattle.slots.specs.Slots.{slot}
 use Rattle.table.specs.Table.{HasSlot}
-use Rattle.lists.specs.Lists.{Bag, appended, Each, Entries}
-use Rattle.pushes.specs.Pushes.{swept, pushed, Pushable}
+use Rattle.lists.specs.Lists.{Bag, bag, appended, Each, Entries}
+use Rattle.pushes.specs.Pushes.{swept, hasRoom, pushed, Pushable}
 use Rattle.pushes.specs.RoomLaws.{room-after-sweep}
 use Rattle.lists.specs.ListLaws.{length-appended, each-appended, entries-appended}
 use Rattle.pushes.specs.SweptLaws.{length-swept, each-swept, entries-swept}
 
 -- The list that a push appends to: swept if it was full.
 unfoldable pub ready : List ℕ → ℕ → Bag → Bag
-ready w v b = pick (ltb (b .len) (length (b .table))) b (swept w v b)
+ready w v b = pick (hasRoom b) b (swept w v b)
 
 module _ (w : List ℕ) (v : ℕ) (b : Bag) where
   pub pushed-ready : pushed w v b ≡ appended (ready w v b) v
@@ -27,18 +28,30 @@ module _ (w : List ℕ) (v : ℕ) (b : Bag) where
 
   -- What holds of the list with room, and of the full list once swept, holds of the one appended to.
   pub ready-elim : (P : Bag → Type 0) → (b .len < length (b .table) → P b) → (length (b .table) ≤ b .len → P (swept w v b)) → P (ready w v b)
-  unfolding ready
-  ready-elim P f g =
-      pick-elim P (ltb (b .len) (length (b .table))) b (swept w v b) (λ e. f (ltb-true _ _ e)) (λ e. g (ltb-false _ _ e))
+  unfolding ready hasRoom
+  ready-elim P f g = pick-elim P (hasRoom b) b (swept w v b) (λ e. f (ltb-true _ _ e)) (λ e. g (ltb-false _ _ e))
+
+-- A list has room if its length is below its table's.
+pub room-asked : (n : ℕ) (t : List ℕ) → ltb n (length t) ≡ hasRoom (bag t n)
+unfolding hasRoom
+room-asked n t = refl
+
+pub room-told : (b : Bag) → hasRoom b ≡ true → b .len < length (b .table)
+unfolding hasRoom
+room-told b e = ltb-true _ _ e
+
+pub room-given : (b : Bag) → b .len < length (b .table) → hasRoom b ≡ true
+unfolding hasRoom
+room-given b h = lt-ltb _ _ h
 
 -- With room, a push appends; without, it sweeps and then appends.
-pub pushed-room : (w : List ℕ) (v : ℕ) (b r : Bag) → b .len < length (b .table) → r ≡ appended b v → r ≡ pushed w v b
+pub push-appends : (w : List ℕ) (v : ℕ) (b : Bag) → hasRoom b ≡ true → appended b v ≡ pushed w v b
 unfolding pushed
-pushed-room w v b r h e = rw (lt-ltb _ _ h) e
+push-appends w v b e = rw e
 
-pub pushed-full : (w : List ℕ) (v : ℕ) (b s r : Bag) → length (b .table) ≤ b .len → s ≡ swept w v b → r ≡ appended s v → r ≡ pushed w v b
+pub push-sweeps : (w : List ℕ) (v : ℕ) (b : Bag) → hasRoom b ≡ false → appended (swept w v b) v ≡ pushed w v b
 unfolding pushed
-pushed-full w v b s r h q e = rw (le-ltb _ _ h, ← q) e
+push-sweeps w v b e = rw e
 
 module _ (w : List ℕ) (v : ℕ) (b : Bag) (p : Pushable w v b) where
   -- A swept list has room, and so has the one appended to.

@@ -25,9 +25,13 @@ swept w v b =
     let kept = keepers w v (b .table) (b .len) in
     bag (kept ++ drop (length kept) (b .table)) (length kept)
 
+-- A list that is not full.
+unfoldable pub hasRoom : Bag → Bool
+hasRoom b = ltb (b .len) (length (b .table))
+
 -- Push: append; if the list is full, sweep it first.
 unfoldable pub pushed : List ℕ → ℕ → Bag → Bag
-pushed w v b = appended (pick (ltb (b .len) (length (b .table))) b (swept w v b)) v
+pushed w v b = appended (pick (hasRoom b) b (swept w v b)) v
 
 -- What a push asks: at most 4,096 slots, and a list table of at least as many entries as there are slots.
 pub record Pushable (w : List ℕ) (v : ℕ) (b : Bag) : Type 0 where

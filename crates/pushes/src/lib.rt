@@ -1,11 +1,11 @@
-// Sweep and push: a full list is swept before an entry is appended.
+// The sweep of a full list, and the push after it.
 use slots::AllocIndex;
 use slots::NodeKind;
 ghost use mathlib.Core.Path.{_≡_};
 ghost use Prim.Native.Nat.{_≤_, _<_};
 ghost use lib.ListN.{length, getD};
-ghost use Rattle.lists.specs.Lists.{bag, Entries};
-ghost use Rattle.pushes.specs.Pushes.{swept, pushed, Pushable};
+ghost use Rattle.lists.specs.Lists.{bag, appended, Entries};
+ghost use Rattle.pushes.specs.Pushes.{swept, Pushable};
 ghost use Rattle.pushes.specs.Sweeps.{isKept, sweeping, sweepStep, sweepTo, Sweepable};
 
 // Whether a sweep keeps entry x: a Free slot other than the pushed one v, not marked as seen.
@@ -70,14 +70,11 @@ fn sweep(words: &[u32], list: &mut [u32], len: usize, v: u32) -> usize
     sweep_marked(words, list, &mut marks, len, v)
 }
 
-// Appends v; a full list is swept first, and then has room.
-pub fn push(words: &[u32], list: &mut [u32], len: usize, v: u32) -> usize
+// Sweeps a list, which then has room, and appends v.
+pub fn sweep_and_append(words: &[u32], list: &mut [u32], len: usize, v: u32) -> usize
     requires { ⌜ Pushable (now words) v (bag (now list) len) ⌝ }
-    ensures { λ r. ⌜ bag (now (list .exit)) r ≡ pushed (now (words .entry)) v (bag (now (list .entry)) len) ⌝ }
+    ensures { λ r. ⌜ bag (now (list .exit)) r ≡ appended (swept (now (words .entry)) v (bag (now (list .entry)) len)) v ⌝ }
 {
-    if len < list.len() {
-        return lists::append(list, len, v);
-    }
     let less = sweep(words, list, len, v);
     lists::append(list, less, v)
 }

@@ -19,8 +19,8 @@ use Rattle.table.specs.Stores.{stored, toNode}
 use Rattle.slots.specs.declared.Node.{Node}
 use Rattle.lists.specs.Lists.{Bag, bag, appended, Entries}
 use Rattle.pushes.specs.Pushes.{Pushable}
-use Rattle.pushes.specs.PushLaws.{pushed-room}
-use Rattle.buckets.specs.FreeLists.{Lists, lists, listOf, withList, pushedTo}
+use Rattle.pushes.specs.PushLaws.{room-given, push-appends}
+use Rattle.buckets.specs.FreeLists.{Lists, lists, listOf, withList, appendedIn, pushedTo}
 use Rattle.buckets.specs.declared.Lengths.{Lengths}
 use Rattle.steps.specs.State.{state}
 use Rattle.steps.specs.declared.Head.{Head}
@@ -47,10 +47,11 @@ module _ (w g a b c : List ℕ) (L : Lent (length w) (length g) (length a) (leng
       }
 
   -- The first push appends.
-  pub first-push : (u : List ℕ) (k : Bucket) → pushedTo u 0 k (noEntries a b c) ≡ withList k (appended (listOf k (noEntries a b c)) 0) (noEntries a b c)
+  pub first-push : (u : List ℕ) (k : Bucket) → pushedTo u 0 k (noEntries a b c) ≡ appendedIn 0 k (noEntries a b c)
   first-push u k =
       let q = list-empty k in
-      ap (λ (x : Bag). withList k x (noEntries a b c)) (sym (pushed-room u 0 (listOf k (noEntries a b c)) _ (omega (arith, q .0, q .1, L .some)) refl))
+      let room = room-given (listOf k (noEntries a b c)) (omega (arith, q .0, q .1, L .some)) in
+      ap (λ (x : Bag). withList k x (noEntries a b c)) (sym (push-appends u 0 (listOf k (noEntries a b c)) room))
 
   -- The whole, from what its calls ensure.
   pub begun-started : (sheet : Size) (options : AllocatorOptions) (t : Setup) (k : Bucket) (n : Node) (u : List ℕ) (l : Lengths) (a′ b′ c′ : List ℕ)

@@ -158,8 +158,8 @@ climb-returns-2 : (t : ℕ) → climb-lts.Need-returns-2 (
   climb.Post,
 ) (climb-at t) climb.Post
 climb-returns-2 t c =
-    climb-goes-on _ (c .before .before .before .before .before .before .before .before .before .before .before .before .before .before .before .before .before .before .before .before .before .before .before .absorb-next .ensures) (c .before .before .before .before .before .before .before .before .before .before .before .before .before .before .before .before .before .absorb-into-prev .ensures) _ (c .before .before .before .before .before .before .before .before .before .before .before .before .before .before .before .before .before .before .before .before .before .before .before .before .before .if1 .left) (sym (c .before .before .before .before .before .before .before .before .before .before .before .is-only-child .ensures) ∙ c .before .before .before .before .before .before .before .before .before .before .if2 .taken)
-    (c .before .before .before .before .before .before .before .before .give-up .ensures) (c .before .before .climb .ensures)
+    climb-goes-on _ (c .before .before .before .before .before .before .before .before .before .before .before .before .before .before .before .before .before .before .before .before .before .before .before .before .before .absorb-next .ensures) (c .before .before .before .before .before .before .before .before .before .before .before .before .before .before .before .before .before .before .before .absorb-into-prev .ensures) _ (c .before .before .before .before .before .before .before .before .before .before .before .before .before .before .before .before .before .before .before .before .before .before .before .before .before .before .before .if1 .left) (sym (c .before .before .before .before .before .before .before .before .before .before .before .before .before .is-only-child .ensures) ∙ c .before .before .before .before .before .before .before .before .before .before .before .before .if2 .taken)
+    (c .before .before .before .before .before .before .before .before .before .before .give-up .ensures) (c .before .before .before .before .climb .ensures)
 
 climb-same-length-2 : (t : ℕ) → climb-lts.Need-same-length-2 (
   absorb-next-reads.Asked,
