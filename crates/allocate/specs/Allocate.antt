@@ -9,7 +9,8 @@ use Rattle.rounding.specs.declared.Request.{Request}
 use Rattle.rounding.specs.declared.Request.the-variants.{Of, NotPositive, TooLarge}
 use Rattle.tickets.specs.declared.AllocId.{AllocId}
 use Rattle.steps.specs.State.{State}
-use Rattle.audit.specs.Answers.{Given, given, Answers}
+use Rattle.outcomes.specs.Given.{Given, given}
+use Rattle.audit.specs.Answers.{Answers}
 use Rattle.grants.specs.Grants.{Grant, noTicket, refused, granted}
 
 -- What allocate hands over: a ticket and its rectangle.

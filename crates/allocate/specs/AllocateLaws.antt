@@ -12,7 +12,8 @@ use Rattle.rounding.specs.declared.Request.{Request}
 use Rattle.rounding.specs.declared.Request.the-variants.{Of, NotPositive, TooLarge}
 use Rattle.steps.specs.State.{State}
 use Rattle.sound.specs.Sound.{Sound}
-use Rattle.audit.specs.Answers.{Given, given, Answers}
+use Rattle.outcomes.specs.Given.{given}
+use Rattle.audit.specs.Answers.{Answers}
 use Rattle.audit.specs.Audited.{Checked}
 use Rattle.audit.specs.AnswerLaws.{answers-done}
 use Rattle.grants.specs.Grants.{Grant, refused, granted}

@@ -15,7 +15,7 @@ use Rattle.slots.specs.declared.AllocIndex.{AllocIndex}
 use Rattle.steps.specs.State.{State}
 use Rattle.sound.specs.Sound.{Sound}
 use Rattle.lent.specs.Lent.{LentOf}
-use Rattle.audit.specs.Answers.{Given, given}
+use Rattle.outcomes.specs.Given.{Given, given}
 use Rattle.audit.specs.AnswerLaws.{answers-once, answers-cases, answers-1, answers-2, answers-other, on-sound}
 use Rattle.grants.specs.Grants.{Grant, grant, refused, taken, granted}
 use Rattle.granted.specs.Cases.{grant-cases}

@@ -4,7 +4,7 @@ use rounding::Request;
 use steps::Head;
 use taking::Allocation;
 ghost use Rattle.steps.specs.State.{state};
-ghost use Rattle.audit.specs.Answers.{given};
+ghost use Rattle.outcomes.specs.Given.{given};
 ghost use Rattle.allocate.specs.Allocate.{crop, AllocateCall};
 
 // A rectangle for a requested size, with its ticket. 1: a table length is out of range; 2: the tables are not sound; 4: a side is 0 or less;

@@ -12,7 +12,8 @@ use Rattle.sound.specs.Sound.{Sound}
 use Rattle.lent.specs.Lent.{LentOf}
 use Rattle.audit.specs.Audited.{Checked}
 use Rattle.audit.specs.Exact.{check-is-exact}
-use Rattle.audit.specs.Answers.{Given, given, afterCheck, Answers, nothing}
+use Rattle.outcomes.specs.Given.{Given, nothing, given}
+use Rattle.audit.specs.Answers.{afterCheck, Answers}
 
 module _ {A : Type 0} {nothing : A} {s : State} {core : Given A} where
   -- NO OTHER OUTCOME. Two outcomes that meet the contract are the same: answer, what is handed over, head and tables.

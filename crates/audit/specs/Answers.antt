@@ -5,16 +5,8 @@ use Prim.Native.Nat.{ℕ}
 use lib.Dec.{eqb}
 use Rattle.geometry.specs.Choice.{pick}
 use Rattle.steps.specs.State.{State}
+use Rattle.outcomes.specs.Given.{Given, given}
 use Rattle.audit.specs.Audited.{Checked}
-
--- What a call leaves: its answer, what it hands over, and the head and every table, whole.
-pub record Given (A : Type 0) : Type 0 where
-  pub answer : ℕ
-  pub value : A
-  pub after : State
-
-abbrev pub given : {A : Type 0} → ℕ → A → State → Given A
-given k v s = record { answer = k; value = v; after = s }
 
 -- What a call gives where the check answers k: that number, unless it is 0, and else what the call does on sound tables.
 unfoldable pub afterCheck : {A : Type 0} → A → State → Given A → ℕ → Given A
@@ -25,7 +17,3 @@ pub record Answers {A : Type 0} (nothing : A) (s : State) (core o : Given A) : T
   pub code : ℕ
   pub checked : Checked s code
   pub is : o ≡ afterCheck nothing s core code
-
--- What a call hands over that gives its answer alone.
-abbrev pub nothing : Unit {0}
-nothing = tt

@@ -3,7 +3,8 @@
 use Rattle.tickets.specs.Tickets.{slotOf}
 use Rattle.tickets.specs.declared.AllocId.{AllocId}
 use Rattle.steps.specs.State.{State}
-use Rattle.audit.specs.Answers.{Given, nothing, given, afterCheck, Answers}
+use Rattle.outcomes.specs.Given.{Given, nothing, given}
+use Rattle.audit.specs.Answers.{afterCheck, Answers}
 use Rattle.live.specs.Live.{ticketAnswer}
 use Rattle.frees.specs.Frees.{released}
 

@@ -8,7 +8,7 @@ use Rattle.tickets.specs.Tickets.{slotOf}
 use Rattle.tickets.specs.declared.AllocId.{AllocId}
 use Rattle.steps.specs.State.{State}
 use Rattle.sound.specs.LiveTickets.{LiveTicket}
-use Rattle.audit.specs.Answers.{nothing, given}
+use Rattle.outcomes.specs.Given.{nothing, given}
 use Rattle.audit.specs.Audited.{Checked}
 use Rattle.audit.specs.AnswerLaws.{leaves-done}
 use Rattle.live.specs.Live.{ticketAnswer}

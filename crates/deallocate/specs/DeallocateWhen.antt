@@ -18,7 +18,8 @@ use Rattle.steps.specs.State.{State}
 use Rattle.sound.specs.Sound.{Sound}
 use Rattle.sound.specs.LiveTickets.{LiveTicket}
 use Rattle.lent.specs.Lent.{LentOf}
-use Rattle.audit.specs.Answers.{Given, nothing, given, afterCheck}
+use Rattle.outcomes.specs.Given.{Given, nothing, given}
+use Rattle.audit.specs.Answers.{afterCheck}
 use Rattle.audit.specs.AnswerLaws.{answers-once, own-answer, refused-changes-nothing, done-leaves, stays-sound}
 use Rattle.live.specs.Live.{ticketAnswer}
 use Rattle.lookup.specs.Lookup.{lookup, IndexCall}

@@ -3,7 +3,7 @@ use outcomes::Outcome;
 use steps::Head;
 use tickets::AllocId;
 ghost use Rattle.steps.specs.State.{state};
-ghost use Rattle.audit.specs.Answers.{nothing, given};
+ghost use Rattle.outcomes.specs.Given.{nothing, given};
 ghost use Rattle.deallocate.specs.Deallocate.{DeallocateCall};
 
 // Frees a live ticket. 1: a table length is out of range; 2: the tables are not sound; 8: the ticket's slot is not below n; 9: its generation

@@ -17,10 +17,11 @@ use Rattle.buckets.specs.FreeLists.{listOf, withList}
 use Rattle.steps.specs.State.{State}
 use Rattle.sound.specs.Sound.{Sound}
 use Rattle.lent.specs.Lent.{lent, LentOf}
-use Rattle.audit.specs.Answers.{Given, Answers}
+use Rattle.outcomes.specs.Given.{Given}
+use Rattle.audit.specs.Answers.{Answers}
 use Rattle.audit.specs.AnswerLaws.{answers-cases}
 use Rattle.sheets.specs.Sheets.{noEntries, stateWith, started}
-use Rattle.starts.specs.Starts.{Outcome, startAnswer, startCall, clearCall}
+use Rattle.starts.specs.Starts.{startAnswer, startCall, clearCall}
 use Rattle.heads.specs.Words.{ShortLists}
 use Rattle.allocate.specs.Allocate.{Crop, AllocateCall}
 use Rattle.allocate.specs.AllocateWhen.{allocate-keeps-sound}
@@ -66,7 +67,7 @@ unfolding started
 started-short sheet options w g x y z =
     let s = setupOf sheet options in entered-short (bucketOf (s .small) (s .large) (s .sheet .width) (s .sheet .height)) sheet options w g x y z
 
-pub start-short : (sheet : Size) (options : AllocatorOptions) (s : State) {o : Outcome} → o ≡ startCall sheet options s → ShortLists (s .head) → ShortLists (o .after .head)
+pub start-short : (sheet : Size) (options : AllocatorOptions) (s : State) {o : Given (Unit {0})} → o ≡ startCall sheet options s → ShortLists (s .head) → ShortLists (o .after .head)
 unfolding startCall
 start-short sheet options s e short = rw e (go (lent s) (validSetup sheet options))
   where
@@ -75,6 +76,6 @@ start-short sheet options s e short = rw e (go (lent s) (validSetup sheet option
     go true false = short
     go false v = short
 
-pub clear-short : (s : State) {o : Outcome} → o ≡ clearCall s → ShortLists (s .head) → ShortLists (o .after .head)
+pub clear-short : (s : State) {o : Given (Unit {0})} → o ≡ clearCall s → ShortLists (s .head) → ShortLists (o .after .head)
 unfolding clearCall
 clear-short s = start-short (s .head .sheet) (s .head .options) s

@@ -6,9 +6,9 @@ ghost use Prim.Native.Nat.{_≤_};
 ghost use lib.Dec.{eqb};
 ghost use Rattle.slots.specs.declared.NodeKind.the-variants.{Alloc, Free};
 ghost use Rattle.audit.specs.Audited.{Checked};
-ghost use Rattle.audit.specs.Answers.{nothing, given};
+ghost use Rattle.outcomes.specs.Given.{nothing, given};
 ghost use Rattle.heads.specs.Words.{headAt, sizeAt, sizeOf, optionsOf, ticketOf, rectAt};
-ghost use Rattle.starts.specs.Starts.{outcome, startCall, clearCall};
+ghost use Rattle.starts.specs.Starts.{startCall, clearCall};
 ghost use Rattle.allocate.specs.Allocate.{AllocateCall};
 ghost use Rattle.deallocate.specs.Deallocate.{DeallocateCall};
 ghost use Rattle.grow.specs.Grow.{GrowCall};
@@ -33,7 +33,7 @@ pub extern "C" fn ferrunchju_start(
     small_threshold: i32,
     large_threshold: i32,
 ) -> u32
-    ensures { λ r. ⌜ outcome r (stateAt (now (head .exit)) (now (words .exit)) (now (generations .exit)) (now (small .exit)) (now (medium .exit)) (now (large .exit)))
+    ensures { λ r. ⌜ given r nothing (stateAt (now (head .exit)) (now (words .exit)) (now (generations .exit)) (now (small .exit)) (now (medium .exit)) (now (large .exit)))
         ≡ startCall (sizeOf width height) (optionsOf «alignment_width» «alignment_height» «small_threshold» «large_threshold»)
         (stateAt (now (head .entry)) (now (words .entry)) (now (generations .entry)) (now (small .entry)) (now (medium .entry)) (now (large .entry))) ⌝ }
 {
@@ -75,30 +75,24 @@ pub extern "C" fn ferrunchju_reset(
     small_threshold: i32,
     large_threshold: i32,
 ) -> u32
-    ensures { λ r. ⌜ outcome r (stateAt (now (head .exit)) (now (words .exit)) (now (generations .exit)) (now (small .exit)) (now (medium .exit)) (now (large .exit)))
+    ensures { λ r. ⌜ given r nothing (stateAt (now (head .exit)) (now (words .exit)) (now (generations .exit)) (now (small .exit)) (now (medium .exit)) (now (large .exit)))
         ≡ startCall (sizeOf width height) (optionsOf «alignment_width» «alignment_height» «small_threshold» «large_threshold»)
         (stateAt (now (head .entry)) (now (words .entry)) (now (generations .entry)) (now (small .entry)) (now (medium .entry)) (now (large .entry))) ⌝ }
 {
-    let before = heads::head_of(head);
-    let sheet = heads::size_of(width, height);
-    let options = heads::options_of(
-        alignment_width,
-        alignment_height,
-        small_threshold,
-        large_threshold,
-    );
-    let begun = starts::reset(
+    ferrunchju_start(
         words,
         generations,
         small,
         medium,
         large,
-        before,
-        sheet,
-        options,
-    );
-    heads::put_head(head, begun.head);
-    begun.answer
+        head,
+        width,
+        height,
+        alignment_width,
+        alignment_height,
+        small_threshold,
+        large_threshold,
+    )
 }
 
 // The same sheet again, empty: 0, 1 or 3.
@@ -111,7 +105,7 @@ pub extern "C" fn ferrunchju_clear(
     large: &mut [u32],
     head: &mut [u32; 12],
 ) -> u32
-    ensures { λ r. ⌜ outcome r (stateAt (now (head .exit)) (now (words .exit)) (now (generations .exit)) (now (small .exit)) (now (medium .exit)) (now (large .exit)))
+    ensures { λ r. ⌜ given r nothing (stateAt (now (head .exit)) (now (words .exit)) (now (generations .exit)) (now (small .exit)) (now (medium .exit)) (now (large .exit)))
         ≡ clearCall (stateAt (now (head .entry)) (now (words .entry)) (now (generations .entry)) (now (small .entry)) (now (medium .entry)) (now (large .entry))) ⌝ }
 {
     let before = heads::head_of(head);

@@ -5,7 +5,8 @@ use Prim.Native.Nat.{_<_}
 use Rattle.geometry.specs.Sides.{natural}
 use Rattle.geometry.specs.declared.Size.{Size}
 use Rattle.steps.specs.State.{State}
-use Rattle.audit.specs.Answers.{Given, given, afterCheck, Answers, nothing}
+use Rattle.outcomes.specs.Given.{Given, nothing, given}
+use Rattle.audit.specs.Answers.{afterCheck, Answers}
 use Rattle.grows.specs.Grows.{grown}
 use Rattle.grows.specs.Refusals.{growAnswer}
 

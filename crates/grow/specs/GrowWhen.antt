@@ -16,7 +16,7 @@ use Rattle.steps.specs.State.{State}
 use Rattle.sound.specs.Sound.{Sound}
 use Rattle.lent.specs.Lent.{LentOf}
 use Rattle.cover.specs.Sums.{LeafAt, rectAt, InRect}
-use Rattle.audit.specs.Answers.{Given, given, nothing}
+use Rattle.outcomes.specs.Given.{Given, nothing, given}
 use Rattle.audit.specs.AnswerLaws.{answers-once, answers-1, answers-2, own-answer, answers-told, on-sound, refused-changes-nothing, done-leaves, stays-sound}
 use Rattle.granted.specs.Terms.{spareAt}
 use Rattle.grows.specs.Grows.{grown, growSlots}

@@ -3,7 +3,7 @@ use geometry::Size;
 use outcomes::Outcome;
 use steps::Head;
 ghost use Rattle.steps.specs.State.{state};
-ghost use Rattle.audit.specs.Answers.{given, nothing};
+ghost use Rattle.outcomes.specs.Given.{nothing, given};
 ghost use Rattle.grow.specs.Grow.{GrowCall};
 
 // Grows the sheet to another size. 1: a table length is out of range; 2: the tables are not sound; 11: either side is smaller than now;

@@ -14,7 +14,7 @@ use Rattle.table.specs.Table.{nodeAt}
 use Rattle.tickets.specs.declared.AllocId.{AllocId}
 use Rattle.steps.specs.State.{State, state}
 use Rattle.sound.specs.View.{inUse}
-use Rattle.audit.specs.Answers.{Given}
+use Rattle.outcomes.specs.Given.{Given}
 use Rattle.grants.specs.Grants.{Grant}
 use Rattle.starts.specs.Starts.{startCall}
 use Rattle.allocate.specs.Allocate.{allocated}

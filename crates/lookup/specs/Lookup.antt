@@ -4,7 +4,8 @@ use Rattle.geometry.specs.Rectangles.{noRect}
 use Rattle.geometry.specs.declared.Rectangle.{Rectangle}
 use Rattle.tickets.specs.declared.AllocId.{AllocId}
 use Rattle.steps.specs.State.{State}
-use Rattle.audit.specs.Answers.{Given, given, Answers}
+use Rattle.outcomes.specs.Given.{Given, given}
+use Rattle.audit.specs.Answers.{Answers}
 use Rattle.live.specs.Live.{ticketAnswer, ticketRect}
 
 -- What the lookup gives on sound tables.

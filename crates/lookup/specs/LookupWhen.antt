@@ -16,7 +16,7 @@ use Rattle.sound.specs.LiveTickets.{LiveTicket}
 use Rattle.steps.specs.State.{State}
 use Rattle.sound.specs.Sound.{Sound}
 use Rattle.lent.specs.Lent.{LentOf}
-use Rattle.audit.specs.Answers.{Given, given}
+use Rattle.outcomes.specs.Given.{Given, given}
 use Rattle.audit.specs.AnswerLaws.{answers-1, answers-2, answers-other, answers-sound, answers-refused, on-sound}
 use Rattle.lookup.specs.Lookup.{lookup, IndexCall}
 use Rattle.live.specs.TicketLaws.{ticket-cases}

@@ -3,7 +3,7 @@ use live::Looked;
 use steps::Head;
 use tickets::AllocId;
 ghost use Rattle.steps.specs.State.{state};
-ghost use Rattle.audit.specs.Answers.{given};
+ghost use Rattle.outcomes.specs.Given.{given};
 ghost use Rattle.lookup.specs.Lookup.{IndexCall};
 
 // A ticket's rectangle. 8: its slot is not below n; 9: its generation differs; 10: its slot is not Alloc.

@@ -22,8 +22,9 @@ use Rattle.tickets.specs.declared.AllocId.{AllocId}
 use Rattle.tickets.specs.Tickets.{slotOf}
 use Rattle.steps.specs.State.{State}
 use Rattle.lent.specs.Lent.{lent}
-use Rattle.starts.specs.Starts.{Outcome, startAnswer, startCall, clearCall}
-use Rattle.audit.specs.Answers.{Given, given, afterCheck, Answers, nothing}
+use Rattle.starts.specs.Starts.{startAnswer, startCall, clearCall}
+use Rattle.outcomes.specs.Given.{Given, nothing, given}
+use Rattle.audit.specs.Answers.{afterCheck, Answers}
 use Rattle.audit.specs.AnswerLaws.{answers-cases, own-answer}
 use Rattle.live.specs.Live.{ticketAnswer}
 use Rattle.live.specs.TicketLaws.{ticket-cases}

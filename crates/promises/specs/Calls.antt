@@ -11,8 +11,8 @@ use Rattle.geometry.specs.declared.Size.{Size}
 use Rattle.slots.specs.declared.NodeKind.{NodeKind}
 use Rattle.tickets.specs.declared.AllocId.{AllocId}
 use Rattle.steps.specs.State.{State}
-use Rattle.starts.specs.Starts.{outcome, startCall, clearCall}
-use Rattle.audit.specs.Answers.{given, nothing}
+use Rattle.starts.specs.Starts.{startCall, clearCall}
+use Rattle.outcomes.specs.Given.{nothing, given}
 use Rattle.lookup.specs.Lookup.{IndexCall}
 use Rattle.listings.specs.Listings.{Filled}
 use Rattle.views.specs.Views.{ListCall, EmptyCall}
@@ -34,9 +34,9 @@ pub data Call : Type 0 where
 
 -- What the contract of the call says of its answer and of the head and the tables after it; what it hands over beside is some value.
 abbrev pub Leaves : Call → State → ℕ → State → Type 0
-Leaves (Start z o) s k t = outcome k t ≡ startCall z o s
-Leaves (Reset z o) s k t = outcome k t ≡ startCall z o s
-Leaves Clear s k t = outcome k t ≡ clearCall s
+Leaves (Start z o) s k t = given k nothing t ≡ startCall z o s
+Leaves (Reset z o) s k t = given k nothing t ≡ startCall z o s
+Leaves Clear s k t = given k nothing t ≡ clearCall s
 Leaves (Allocate z) s k t = (c : Crop) × AllocateCall z s (given k c t)
 Leaves (Deallocate i) s k t = DeallocateCall s i (given k nothing t)
 Leaves (Grow z) s k t = GrowCall s z (given k nothing t)

@@ -16,9 +16,9 @@ use Rattle.slots.specs.declared.NodeKind.{NodeKind}
 use Rattle.tickets.specs.declared.AllocId.{AllocId}
 use Rattle.steps.specs.State.{State}
 use Rattle.geometry.specs.declared.Size.{Size}
-use Rattle.starts.specs.Starts.{Outcome, outcome, startCall, clearCall}
+use Rattle.starts.specs.Starts.{startCall, clearCall}
 use Rattle.starts.specs.StartWhen.{start-refusal-changes-nothing}
-use Rattle.audit.specs.Answers.{Given, given}
+use Rattle.outcomes.specs.Given.{Given}
 use Rattle.audit.specs.AnswerLaws.{answers-once}
 use Rattle.lookup.specs.Lookup.{IndexCall}
 use Rattle.lookup.specs.LookupWhen.{index-refused}
@@ -34,7 +34,8 @@ use Rattle.grow.specs.GrowWhen.{grow-refused}
 use Rattle.promises.specs.Calls.{Call, Start, Reset, Clear, Allocate, Deallocate, Grow, Index, Listing, IsEmpty, Leaves, answersOf, OneOf, ChangesNothing}
 use Rattle.promises.specs.Answered.{checked-answers, start-answers, allocated-answers, ticket-answers, deallocated-answers, grown-answers, list-answers}
 
-after-of : {A : Type 0} {o p : Given A} → o ≡ p → (o .answer ≡ p .answer) × (o .after ≡ p .after)
+-- What an equation of outcomes says of the answer and of the tables.
+pub after-of : {A : Type 0} {o p : Given A} → o ≡ p → (o .answer ≡ p .answer) × (o .after ≡ p .after)
 after-of e = (ap (λ g. g .answer) e, ap (λ g. g .after) e)
 
 value-of : {A : Type 0} {o p : Given A} → o ≡ p → o .value ≡ p .value
@@ -43,15 +44,12 @@ value-of e = ap (λ g. g .value) e
 crop-same : {c : Crop} → c .ticket ≡ noTicket → c .rect ≡ noRect → c ≡ noCrop
 crop-same a b = rw (a, b)
 
-left-of : {o p : Outcome} → o ≡ p → (o .answer ≡ p .answer) × (o .after ≡ p .after)
-left-of e = (ap (λ g. g .answer) e, ap (λ g. g .after) e)
-
 -- AN ANSWER FROM THE LIST. Every call answers 0 or one of its own refusals.
 pub answer-is-listed : (c : Call) (s : State) (k : ℕ) (t : State) → Leaves c s k t → OneOf k (answersOf c)
 unfolding clearCall
-answer-is-listed (Start z o) s k t e = rw (left-of e .0) (start-answers z o s)
-answer-is-listed (Reset z o) s k t e = rw (left-of e .0) (start-answers z o s)
-answer-is-listed Clear s k t e = rw (left-of e .0) (start-answers (s .head .sheet) (s .head .options) s)
+answer-is-listed (Start z o) s k t e = rw (after-of e .0) (start-answers z o s)
+answer-is-listed (Reset z o) s k t e = rw (after-of e .0) (start-answers z o s)
+answer-is-listed Clear s k t e = rw (after-of e .0) (start-answers (s .head .sheet) (s .head .options) s)
 answer-is-listed (Allocate z) s k t (c, call) = checked-answers (4 ∷ 5 ∷ 6 ∷ 7 ∷ []) call (allocated-answers s z)
 answer-is-listed (Deallocate i) s k t call = checked-answers (8 ∷ 9 ∷ 10 ∷ []) call (deallocated-answers s i)
 answer-is-listed (Grow z) s k t call = checked-answers (11 ∷ 3 ∷ 7 ∷ []) call (grown-answers s z)
@@ -61,9 +59,9 @@ answer-is-listed IsEmpty s k t (b, call) = checked-answers [] call (inl refl)
 
 -- ONE OUTCOME. The answer and the head and every table after the call are settled by the head and the tables before it and by what the call is given.
 pub outcome-is-one : (c : Call) (s : State) (k l : ℕ) (t u : State) → Leaves c s k t → Leaves c s l u → (k ≡ l) × (t ≡ u)
-outcome-is-one (Start z o) s k l t u e f = left-of (e ∙ sym f)
-outcome-is-one (Reset z o) s k l t u e f = left-of (e ∙ sym f)
-outcome-is-one Clear s k l t u e f = left-of (e ∙ sym f)
+outcome-is-one (Start z o) s k l t u e f = after-of (e ∙ sym f)
+outcome-is-one (Reset z o) s k l t u e f = after-of (e ∙ sym f)
+outcome-is-one Clear s k l t u e f = after-of (e ∙ sym f)
 outcome-is-one (Allocate z) s k l t u (_, a) (_, b) = after-of (answers-once a b)
 outcome-is-one (Deallocate i) s k l t u a b = after-of (answers-once a b)
 outcome-is-one (Grow z) s k l t u a b = after-of (answers-once a b)
@@ -75,9 +73,9 @@ outcome-is-one IsEmpty s k l t u (_, a) (_, b) = after-of (answers-once a b)
 pub refusal-changes-nothing : (c : Call) (s : State) (k : ℕ) (t : State) → Leaves c s k t → ChangesNothing c k → t ≡ s
 unfolding clearCall
 refusal-changes-nothing (Start z o) s k t e d =
-    left-of e .1 ∙ start-refusal-changes-nothing z o s (rw (left-of e .0) at d)
-refusal-changes-nothing (Reset z o) s k t e d = left-of e .1 ∙ start-refusal-changes-nothing z o s (rw (left-of e .0) at d)
-refusal-changes-nothing Clear s k t e d = left-of e .1 ∙ start-refusal-changes-nothing (s .head .sheet) (s .head .options) s (rw (left-of e .0) at d)
+    after-of e .1 ∙ start-refusal-changes-nothing z o s (rw (after-of e .0) at d)
+refusal-changes-nothing (Reset z o) s k t e d = after-of e .1 ∙ start-refusal-changes-nothing z o s (rw (after-of e .0) at d)
+refusal-changes-nothing Clear s k t e d = after-of e .1 ∙ start-refusal-changes-nothing (s .head .sheet) (s .head .options) s (rw (after-of e .0) at d)
 refusal-changes-nothing (Allocate z) s k t (_, call) d = after-of (allocate-refusal-changes-nothing s z call (d .0) (d .1) (d .2)) .1
 refusal-changes-nothing (Deallocate i) s k t call d = after-of (deallocate-refused s i call d) .1
 refusal-changes-nothing (Grow z) s k t call d = after-of (grow-refused s z call d) .1

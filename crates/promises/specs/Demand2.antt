@@ -16,9 +16,9 @@ use Rattle.tickets.specs.declared.AllocId.{AllocId}
 use Rattle.steps.specs.State.{State}
 use Rattle.sound.specs.Sound.{Sound}
 use Rattle.lent.specs.Lent.{LentOf}
-use Rattle.starts.specs.Starts.{Outcome, startCall, clearCall}
+use Rattle.starts.specs.Starts.{startCall, clearCall}
 use Rattle.starts.specs.StartWhen.{start-gives-1, start-gives-3, start-gives-0}
-use Rattle.audit.specs.Answers.{Given}
+use Rattle.outcomes.specs.Given.{Given}
 use Rattle.audit.specs.AnswerLaws.{answers-sound}
 use Rattle.lookup.specs.Lookup.{lookup, IndexCall}
 use Rattle.lookup.specs.LookupWhen.{index-gives-1, index-gives-2, index-gives-8, index-gives-9, index-gives-10, index-gives-0}
@@ -58,7 +58,7 @@ yes-exactly-when-empty s o call = empty-gives-yes call
 -- EXACTLY WHEN: the tables of answers in When.antt hold.
 pub start-answers-when : (z : Size) (o : AllocatorOptions) (s : State) (k : ℕ) (t : State) → Leaves (Start z o) s k t → StartAnswers z o s k
 start-answers-when z o s k t e =
-    rw (ap (λ (x : Outcome). x .answer) e) (record { gives-1 = start-gives-1 z o s; gives-3 = start-gives-3 z o s; gives-0 = start-gives-0 z o s })
+    rw (ap (λ (x : Given (Unit {0})). x .answer) e) (record { gives-1 = start-gives-1 z o s; gives-3 = start-gives-3 z o s; gives-0 = start-gives-0 z o s })
 
 pub clear-answers-when : (s : State) (k : ℕ) (t : State) → Leaves Clear s k t → StartAnswers (s .head .sheet) (s .head .options) s k
 unfolding clearCall

@@ -25,10 +25,10 @@ use Rattle.sound.specs.LiveTickets.{LiveTicket}
 use Rattle.lent.specs.Lent.{LentOf}
 use Rattle.cover.specs.Covered.{sheet-area, leaves-apart, point-has-one-slot}
 use Rattle.cover.specs.Sums.{allocMeasure, freeMeasure, sumSlots, LeafAt, rectAt, InRect}
-use Rattle.starts.specs.Starts.{Outcome, startCall, clearCall}
+use Rattle.starts.specs.Starts.{startCall, clearCall}
 use Rattle.starts.specs.StartSound.{start-leaves-sound, start-keeps-lent, clear-leaves-sound}
 use Rattle.views.specs.ViewsWhen.{empty-changes-nothing}
-use Rattle.audit.specs.Answers.{Given}
+use Rattle.outcomes.specs.Given.{Given}
 use Rattle.grants.specs.Grants.{Grant}
 use Rattle.granted.specs.Terms.{Roomy, Refuses, GivesOut}
 use Rattle.allocate.specs.Allocate.{Crop, AllocateCall}
@@ -37,7 +37,7 @@ use Rattle.freed.specs.Terms.{Among, Tickets, SameSlots, OneFree}
 use Rattle.deallocate.specs.DeallocateWhen.{deallocate-keeps-sound, deallocate-frees-one, DeallocateEach, deallocate-order-is-free, deallocate-all-leaves-one}
 use Rattle.grow.specs.GrowWhen.{grow-keeps-sound, grow-keeps-tickets}
 use Rattle.promises.specs.Calls.{Call, Start, Reset, Clear, Allocate, Deallocate, Grow, Index, Listing, IsEmpty, Leaves, Run, Done, Then, Spares}
-use Rattle.promises.specs.Demand1.{refusal-changes-nothing}
+use Rattle.promises.specs.Demand1.{after-of, refusal-changes-nothing}
 use Rattle.promises.specs.Demand2.{lookup-is-its-model, listing-is-its-model}
 
 -- COVERED ONCE. Each point of the sheet lies in the rectangle of an Alloc or Free slot, and of no other one.
@@ -65,15 +65,11 @@ no-space-is-exact z s k t e L S q (_, call) =
     same-request : {d g : Extent} → Of d ≡ Of g → d ≡ g
     same-request p = cc
 
--- What an equation of outcomes says of the answer and of the tables.
-outcome-of : {o p : Outcome} → o ≡ p → (o .answer ≡ p .answer) × (o .after ≡ p .after)
-outcome-of e = (ap (λ g. g .answer) e, ap (λ g. g .after) e)
-
 started : (z : Size) (o : AllocatorOptions) (s : State) (k : ℕ) (t : State) → Leaves (Start z o) s k t → LentOf s → Sound s → Sound t × LentOf t
-started z o s k t e L S = let f = outcome-of e in (by (ℕ-discrete k 0), rw (f .1) (start-keeps-lent z o s L))
+started z o s k t e L S = let f = after-of e in (by (ℕ-discrete k 0), rw (f .1) (start-keeps-lent z o s L))
   where
     by : Dec (k ≡ 0) → Sound t
-    by (yes q) = let f = outcome-of e in rw (f .1) (start-leaves-sound z o s (sym (f .0) ∙ q))
+    by (yes q) = let f = after-of e in rw (f .1) (start-leaves-sound z o s (sym (f .0) ∙ q))
     by (no n) = rw (refusal-changes-nothing (Start z o) s k t e n) S
 
 -- NO CALL MAKES THEM UNSOUND, whatever it answers.
@@ -138,13 +134,13 @@ new-ticket-has-its-own z s o call = allocate-gives-out s z call
 
 -- SOUND FROM THE START. An accepted start, reset or clear leaves sound tables, whatever they held before,
 pub accepted-start-leaves-sound : (z : Size) (o : AllocatorOptions) (s : State) (t : State) → Leaves (Start z o) s 0 t → Sound t
-accepted-start-leaves-sound z o s t e = let f = outcome-of e in rw (f .1) (start-leaves-sound z o s (sym (f .0)))
+accepted-start-leaves-sound z o s t e = let f = after-of e in rw (f .1) (start-leaves-sound z o s (sym (f .0)))
 
 pub accepted-reset-leaves-sound : (z : Size) (o : AllocatorOptions) (s : State) (t : State) → Leaves (Reset z o) s 0 t → Sound t
 accepted-reset-leaves-sound = accepted-start-leaves-sound
 
 pub accepted-clear-leaves-sound : (s : State) (t : State) → Leaves Clear s 0 t → Sound t
-accepted-clear-leaves-sound s t e = let f = outcome-of e in rw (f .1) (clear-leaves-sound s (sym (f .0)))
+accepted-clear-leaves-sound s t e = let f = after-of e in rw (f .1) (clear-leaves-sound s (sym (f .0)))
 
 -- ORDER IS FREE. Different live tickets freed in two orders, each answered 0: the same slots stay live with the same links, kinds, orientations,
 -- rectangles and generations.

@@ -11,10 +11,11 @@ use Rattle.geometry.specs.declared.Size.{Size}
 use Rattle.steps.specs.State.{State}
 use Rattle.lent.specs.Lent.{lent, LentOf}
 use Rattle.lent.specs.LentLaws.{lent-yes, yes-lent}
-use Rattle.starts.specs.Starts.{Outcome, startAnswer, startCall}
+use Rattle.outcomes.specs.Given.{Given}
+use Rattle.starts.specs.Starts.{startAnswer, startCall}
 
 module _ (sheet : Size) (options : AllocatorOptions) (s : State) where
-  cases : (P : Outcome → Type 0) → (lent s ≡ false → P (startAnswer false true sheet options s))
+  cases : (P : Given (Unit {0}) → Type 0) → (lent s ≡ false → P (startAnswer false true sheet options s))
       → (lent s ≡ true → validSetup sheet options ≡ false → P (startAnswer true false sheet options s))
       → (lent s ≡ true → validSetup sheet options ≡ true → P (startAnswer true true sheet options s)) → P (startCall sheet options s)
   unfolding startCall
@@ -28,7 +29,7 @@ module _ (sheet : Size) (options : AllocatorOptions) (s : State) where
   -- 1: a table length is outside its range.
   pub start-gives-1 : (startCall sheet options s .answer ≡ 1) ↔ (LentOf s → ⊥)
   start-gives-1 =
-      cases (λ (o : Outcome). (o .answer ≡ 1) ↔ (LentOf s → ⊥))
+      cases (λ (o : Given (Unit {0})). (o .answer ≡ 1) ↔ (LentOf s → ⊥))
       (λ l. (λ _ L. true≢false (sym (yes-lent _ _ _ _ _ L) ∙ l), λ _. refl))
       (λ l v. (λ e. absurd (omega arith), λ n. absurd (n (lent-yes _ _ _ _ _ l))))
       (λ l v. (λ e. absurd (omega arith), λ n. absurd (n (lent-yes _ _ _ _ _ l))))
@@ -36,7 +37,7 @@ module _ (sheet : Size) (options : AllocatorOptions) (s : State) where
   -- 3: the lengths are in range and the setup is invalid.
   pub start-gives-3 : (startCall sheet options s .answer ≡ 3) ↔ (LentOf s × (validSetup sheet options ≡ false))
   start-gives-3 =
-      cases (λ (o : Outcome). (o .answer ≡ 3) ↔ (LentOf s × (validSetup sheet options ≡ false)))
+      cases (λ (o : Given (Unit {0})). (o .answer ≡ 3) ↔ (LentOf s × (validSetup sheet options ≡ false)))
       (λ l. (λ e. absurd (omega arith), λ p. absurd (true≢false (sym (yes-lent _ _ _ _ _ (p .0)) ∙ l))))
       (λ l v. (λ _. (lent-yes _ _ _ _ _ l, v), λ _. refl))
       (λ l v. (λ e. absurd (omega arith), λ p. absurd (true≢false (sym v ∙ p .1))))
@@ -44,7 +45,7 @@ module _ (sheet : Size) (options : AllocatorOptions) (s : State) where
   -- 0: the lengths are in range and the setup is valid.
   pub start-gives-0 : (startCall sheet options s .answer ≡ 0) ↔ (LentOf s × (validSetup sheet options ≡ true))
   start-gives-0 =
-      cases (λ (o : Outcome). (o .answer ≡ 0) ↔ (LentOf s × (validSetup sheet options ≡ true)))
+      cases (λ (o : Given (Unit {0})). (o .answer ≡ 0) ↔ (LentOf s × (validSetup sheet options ≡ true)))
       (λ l. (λ e. absurd (omega arith), λ p. absurd (true≢false (sym (yes-lent _ _ _ _ _ (p .0)) ∙ l))))
       (λ l v. (λ e. absurd (omega arith), λ p. absurd (true≢false (sym (p .1) ∙ v))))
       (λ l v. (λ _. (lent-yes _ _ _ _ _ l, v), λ _. refl))
@@ -52,4 +53,4 @@ module _ (sheet : Size) (options : AllocatorOptions) (s : State) where
   -- A refusal leaves the head and every table as they were.
   pub start-refusal-changes-nothing : (startCall sheet options s .answer ≡ 0 → ⊥) → startCall sheet options s .after ≡ s
   start-refusal-changes-nothing =
-      cases (λ (o : Outcome). (o .answer ≡ 0 → ⊥) → o .after ≡ s) (λ _ _. refl) (λ _ _ _. refl) (λ _ _ n. absurd (n refl))
+      cases (λ (o : Given (Unit {0})). (o .answer ≡ 0 → ⊥) → o .after ≡ s) (λ _ _. refl) (λ _ _ _. refl) (λ _ _ n. absurd (n refl))

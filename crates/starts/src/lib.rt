@@ -5,7 +5,8 @@ use outcomes::Outcome;
 use steps::Head;
 ghost use mathlib.Core.Path.{_≡_};
 ghost use Rattle.steps.specs.State.{state};
-ghost use Rattle.starts.specs.Starts.{outcome, startCall, clearCall};
+ghost use Rattle.outcomes.specs.Given.{nothing, given};
+ghost use Rattle.starts.specs.Starts.{startCall, clearCall};
 
 // A new sheet, whatever the tables held. 1: a table length is out of range; 3: the setup is invalid; both change nothing.
 pub fn start(
@@ -18,7 +19,7 @@ pub fn start(
     sheet: Size,
     options: AllocatorOptions,
 ) -> Outcome
-    ensures { λ r. ⌜ outcome (r .answer) (state (r .head) (now (words .exit)) (now (generations .exit)) (now (small .exit)) (now (medium .exit)) (now (large .exit)))
+    ensures { λ r. ⌜ given (r .answer) nothing (state (r .head) (now (words .exit)) (now (generations .exit)) (now (small .exit)) (now (medium .exit)) (now (large .exit)))
         ≡ startCall sheet options (state head (now (words .entry)) (now (generations .entry)) (now (small .entry)) (now (medium .entry)) (now (large .entry))) ⌝ }
 {
     if !lent::is_lent(
@@ -57,7 +58,7 @@ pub fn reset(
     sheet: Size,
     options: AllocatorOptions,
 ) -> Outcome
-    ensures { λ r. ⌜ outcome (r .answer) (state (r .head) (now (words .exit)) (now (generations .exit)) (now (small .exit)) (now (medium .exit)) (now (large .exit)))
+    ensures { λ r. ⌜ given (r .answer) nothing (state (r .head) (now (words .exit)) (now (generations .exit)) (now (small .exit)) (now (medium .exit)) (now (large .exit)))
         ≡ startCall sheet options (state head (now (words .entry)) (now (generations .entry)) (now (small .entry)) (now (medium .entry)) (now (large .entry))) ⌝ }
 {
     start(
@@ -81,7 +82,7 @@ pub fn clear(
     large: &mut [u32],
     head: Head,
 ) -> Outcome
-    ensures { λ r. ⌜ outcome (r .answer) (state (r .head) (now (words .exit)) (now (generations .exit)) (now (small .exit)) (now (medium .exit)) (now (large .exit)))
+    ensures { λ r. ⌜ given (r .answer) nothing (state (r .head) (now (words .exit)) (now (generations .exit)) (now (small .exit)) (now (medium .exit)) (now (large .exit)))
         ≡ clearCall (state head (now (words .entry)) (now (generations .entry)) (now (small .entry)) (now (medium .entry)) (now (large .entry))) ⌝ }
 {
     let sheet = head.sheet;

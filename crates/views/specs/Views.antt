@@ -12,7 +12,8 @@ use Rattle.slots.specs.declared.NodeKind.the-variants.{Free}
 use Rattle.steps.specs.State.{State}
 use Rattle.sound.specs.View.{seen, Live}
 use Rattle.sound.specs.Sound.{sheetOf}
-use Rattle.audit.specs.Answers.{Given, given, Answers}
+use Rattle.outcomes.specs.Given.{Given, given}
+use Rattle.audit.specs.Answers.{Answers}
 use Rattle.listings.specs.Listings.{Filled, filled, listAnswer, listFilled}
 
 -- What a listing gives on sound tables.

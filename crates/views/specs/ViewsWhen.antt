@@ -24,7 +24,7 @@ use Rattle.steps.specs.Spares.{countKind}
 use Rattle.steps.specs.State.{State}
 use Rattle.sound.specs.Sound.{Sound}
 use Rattle.lent.specs.Lent.{LentOf}
-use Rattle.audit.specs.Answers.{Given, given}
+use Rattle.outcomes.specs.Given.{Given, given}
 use Rattle.audit.specs.AnswerLaws.{answers-cases, answers-1, answers-2, answers-other, answers-sound, answers-refused, on-sound}
 use Rattle.listings.specs.Listings.{entries, Filled, filled, writtenOver, listAnswer, listFilled}
 use Rattle.views.specs.Views.{listing, ListCall, WholeFree, OnlyFree, EmptyCall}

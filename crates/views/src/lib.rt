@@ -7,7 +7,7 @@ ghost use mathlib.Core.Path.{_≡_};
 ghost use Rattle.table.specs.Table.{HasSlot};
 ghost use Rattle.slots.specs.declared.NodeKind.the-variants.{Alloc, Free};
 ghost use Rattle.steps.specs.State.{state};
-ghost use Rattle.audit.specs.Answers.{given};
+ghost use Rattle.outcomes.specs.Given.{given};
 ghost use Rattle.listings.specs.Listings.{filled};
 ghost use Rattle.views.specs.Views.{ListCall, loneFree, EmptyCall};
 
