@@ -38,7 +38,7 @@ use Rattle.across.specs.Ready.{crossed, RootReady, AcrossReady}
 module _ {w g : List ℕ} {h : Head} (R : RootReady w g h) where
   -- The root is in the table, and two slots can be taken.
   pub root-has : HasSlot w (h .root)
-  root-has = omega (arith, R .links .root-live .0, R .fits, R .eight)
+  root-has = omega (arith, R .links .near .root-live .0, R .fits, R .eight)
 
   none-yet : Taking w g h [] g h
   none-yet = start-taking w g h (R .chain) (R .fits)

@@ -76,7 +76,7 @@ climb-merged get n root x L M a h = record { apart = apart; sibling = sibling }
       where
         go : Dec (i ≡ x) → Dec (j ≡ x) → ⊥
         go (yes p) d = a .next j (rw p at e) g
-        go (no p) (yes q) = a .prev i (rw q at (L .next-prev i j l e)) f
+        go (no p) (yes q) = a .prev i (rw q at (L .near .next-prev i j l e)) f
         go (no p) (no q) = M .apart i j l p q e f g
 
     sibling : (i j : ℕ) → Live get n i → get i .kind ≡ Free → get i .parent ≡ to j → get i .next ≡ none → get i .prev ≡ none → ⊥
@@ -97,15 +97,15 @@ module _ (get : ℕ → Seen) (n root : ℕ) (L : Linked get n root) where
   module _ (x : ℕ) (lv : Live get n x) (M : MergedBut get n x) where
     -- so the slot after a Free next is not Free,
     pub beyond-next : (j k : ℕ) → get x .next ≡ to j → get j .kind ≡ Free → get j .next ≡ to k → get k .kind ≡ Free → ⊥
-    beyond-next j k e f g = M .apart j k (L .next-live x j lv e) (next-once x j lv e) (next-twice x j k lv e g) g f
+    beyond-next j k e f g = M .apart j k (L .near .next-live x j lv e) (next-once x j lv e) (next-twice x j k lv e g) g f
 
     -- and neither is the slot before a Free prev.
     pub beyond-prev : (j k : ℕ) → get x .prev ≡ to j → get j .kind ≡ Free → get j .prev ≡ to k → get k .kind ≡ Free → ⊥
     beyond-prev j k e f g h =
-        let lj = L .prev-live x j lv e in
-        let lk = L .prev-live j k lj g in
-        let nj = L .prev-next x j lv e in
-        let nk = L .prev-next j k lj g in
+        let lj = L .near .prev-live x j lv e in
+        let lk = L .near .prev-live j k lj g in
+        let nj = L .near .prev-next x j lv e in
+        let nk = L .near .prev-next j k lj g in
         M .apart k j lk (λ q. next-twice k j x lk nk nj (sym q)) (λ q. next-once j x lj nj (sym q)) nk h f
 
   module _ (get′ : ℕ → Seen) (i j : ℕ) (lv : Live get n i) (op : Absorb get get′ i j) where
@@ -119,7 +119,7 @@ module _ (get : ℕ → Seen) (n root : ℕ) (L : Linked get n root) where
     pub absorb-prev : ((k : ℕ) → get i .prev ≡ to k → get k .kind ≡ Free → ⊥) → (k : ℕ) → get′ i .prev ≡ to k → get′ k .kind ≡ Free → ⊥
     absorb-prev h k e f =
         let v : get i .prev ≡ to k = sym (ap (λ m. m .prev) (op .taker)) ∙ e in
-        let lk = L .prev-live i k lv v in
-        let a : k ≡ i → ⊥ = λ q. next-once k i lk (L .prev-next i k lv v) (sym q) in
+        let lk = L .near .prev-live i k lv v in
+        let a : k ≡ i → ⊥ = λ q. next-once k i lk (L .near .prev-next i k lv v) (sym q) in
         let b : k ≡ j → ⊥ = λ q. unused-free (op .gone) (rw q at f) in
         h k v (sym (elsewhere-alike (op .rest) k (⊎-elim a (⊎-elim b (λ m. m))) .kind) ∙ f)

@@ -155,7 +155,7 @@ chain-placed get n root F R r w = place-table get n none none (get root .orienta
 -- The place that rule 5 gives the chain from root is the forest's.
 pub placed-chain : (get : ℕ → Seen) (n root : ℕ) (F : Forest) → Represents get n root F → (r : Rectangle) → PlaceChain get n root r → PlaceF get F r
 placed-chain get n root F R r w =
-    table-place get n (linked get n root F R .one-child) none none (get root .orientation) F (R .along) root (R .from-root) r w
+    table-place get n (linked get n root F R .near .one-child) none none (get root .orientation) F (R .along) root (R .from-root) r w
 
 -- THE FRAME
 module _ (get get′ : ℕ → Seen) (n n′ root : ℕ) (grow : n ≤ n′) (K : Gap) (T T′ : Forest) (R : Represents get n root (plug K T))

@@ -98,7 +98,7 @@ module _ (get get′ : ℕ → Seen) (n root : ℕ) (L : Linked get n root) (all
       stored : (C : Forest) (p v : Link) (o : Orientation) → Rep get n p v o (slot i C empty) → (k : NodeKind) → get i .kind ≡ k
           → (x : Rectangle) → SlotAt k (get i .rect) (PlaceF get C) x → x ≡ get i .rect
       stored C p v o r Container e x h =
-          let mine : PlaceF get C (get i .rect) = rw e at (table-slot-place get n (L .one-child) p v o i C empty r (get i .rect) (last i lv pi xi e)) in
+          let mine : PlaceF get C (get i .rect) = rw e at (table-slot-place get n (L .near .one-child) p v o i C empty r (get i .rect) (last i lv pi xi e)) in
           place-once get C x (get i .rect) h mine
       stored C p v o r Alloc e x h = h .1
       stored C p v o r Free e x h = h .1

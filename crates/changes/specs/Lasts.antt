@@ -69,7 +69,7 @@ module _ (get : ℕ → Seen) (n root : ℕ) (F : Forest) (R : Represents get n 
       go : (v : Link) (o : Orientation) (T : Forest) → Rep get n none v o T → LastF get T
       go v o empty r = tt
       go v o (slot i C empty) r = λ k.
-          rw k at (table-slot-place get n (linked get n root F R .one-child) none v o i C empty r (get i .rect)
+          rw k at (table-slot-place get n (linked get n root F R .near .one-child) none v o i C empty r (get i .rect)
           (L i (r .0 .below, shape-live (get i .kind) C (r .0 .shape)) (r .0 .parent) (r .0 .next) k))
       go v o (slot i C (slot j B U)) r = go (to i) o (slot j B U) (r .2)
 

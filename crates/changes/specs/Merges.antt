@@ -117,15 +117,15 @@ module _ (get get′ : ℕ → Seen) (n root : ℕ) (L : Linked get n root) (all
   -- and a Container that takes the rectangle of its only child, a Free slot.
   pub give-up-keeps : (i c : ℕ) → GiveUp get get′ i c → Live get n c → get c .kind ≡ Free
       → get c .parent ≡ to i → get c .prev ≡ none → get c .next ≡ none → Kept get get′ n n root
-  give-up-keeps i c op lv k pc vc nc = step-keeps get get′ n n root i (omega arith) L all P (L .parent-live c i lv pc) go
+  give-up-keeps i c op lv k pc vc nc = step-keeps get get′ n n root i (omega arith) L all P (L .near .parent-live c i lv pc) go
     where
       box : get i .kind ≡ Container
-      box = L .parent-kind c i lv pc
+      box = L .near .parent-kind c i lv pc
 
       only : (x : ℕ) (B U S : Forest) (p v : Link) (o : Orientation) → Rep get n p v o (slot i (slot x B U) S) → c ≡ x
       only x B U S p v o r =
           let f = r .1 .0 in
-          L .one-child i c x (record { live = lv; parent = pc; prev = vc })
+          L .near .one-child i c x (record { live = lv; parent = pc; prev = vc })
           (record { live = (f .below, shape-live (get x .kind) B (f .shape)); parent = f .parent; prev = f .prev })
 
       go : (C S : Forest) → (T′ : Forest) × Swapped get get′ n n (slot i C S) T′

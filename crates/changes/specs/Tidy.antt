@@ -62,7 +62,7 @@ cut-merged get get′ n n′ root i new L M lv calm W c = record { apart = apart
     followed u v l x f = go (In-dec v (i ∷ new))
       where
         go : Dec (In v (i ∷ new)) → get v .kind ≡ Free
-        go (yes m) = absurd (⊎-elim (λ e. c .chosen (rw e at f)) (λ s. W .idle v s (L .next-live u v l x)) m)
+        go (yes m) = absurd (⊎-elim (λ e. c .chosen (rw e at f)) (λ s. W .idle v s (L .near .next-live u v l x)) m)
         go (no m) = sym (c .other v m .kind) ∙ f
 
     was-live : (u : ℕ) → (In u (i ∷ new) → ⊥) → Live get′ n′ u → Live get n u

@@ -83,7 +83,7 @@ root-merged get get′ n n′ root a b o z t L W op some M = record { apart = ap
     apart : (u v : ℕ) → Live get′ n′ u → get′ u .next ≡ to v → get′ u .kind ≡ Free → get′ v .kind ≡ Free → ⊥
     apart u v l e f g =
         ⊎-elim (λ m. new u v m f (inl e))
-        (λ w. let x = sym (w .1 .next) ∙ e in M .apart u v (w .0) x (sym (w .1 .kind) ∙ f) (sym (moved v (L .next-live u v (w .0) x) .kind) ∙ g)) (split u l)
+        (λ w. let x = sym (w .1 .next) ∙ e in M .apart u v (w .0) x (sym (w .1 .kind) ∙ f) (sym (moved v (L .near .next-live u v (w .0) x) .kind) ∙ g)) (split u l)
 
     sibling : (u p : ℕ) → Live get′ n′ u → get′ u .kind ≡ Free → get′ u .parent ≡ to p → get′ u .next ≡ none → get′ u .prev ≡ none → ⊥
     sibling u p l f q e v =
@@ -91,4 +91,4 @@ root-merged get get′ n n′ root a b o z t L W op some M = record { apart = ap
         (λ w. let k = sym (w .1 .kind) ∙ f in
         let x = sym (w .1 .next) ∙ e in
         let y = sym (w .1 .prev) ∙ v in
-        ⊎-elim (λ s. M .sibling u p (w .0) k (sym s ∙ q) x y) (λ s. let r = L .root-only u (w .0) s y in some (rw r at k) (rw r at x)) (w .1 .parent)) (split u l)
+        ⊎-elim (λ s. M .sibling u p (w .0) k (sym s ∙ q) x y) (λ s. let r = L .near .root-only u (w .0) s y in some (rw r at k) (rw r at x)) (w .1 .parent)) (split u l)

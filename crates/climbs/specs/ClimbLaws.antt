@@ -31,12 +31,12 @@ module _ {k : ℕ} {l : Level} (C : Climbing k l) where
   next-some : (i : AllocIndex) → Live (seen (l .words)) (C .count) (i .0) → isNone (nodeAt (l .words) i .next) ≡ false
       → Live (seen (l .words)) (C .count) (nodeAt (l .words) i .next .0)
   unfolding seen
-  next-some i v e = let b = nodeAt (l .words) i .next in C .reached .stands .links .next-live (i .0) (b .0) v (link-some b e)
+  next-some i v e = let b = nodeAt (l .words) i .next in C .reached .stands .links .near .next-live (i .0) (b .0) v (link-some b e)
 
   prev-some : (i : AllocIndex) → Live (seen (l .words)) (C .count) (i .0) → isNone (nodeAt (l .words) i .prev) ≡ false
       → Live (seen (l .words)) (C .count) (nodeAt (l .words) i .prev .0)
   unfolding seen
-  prev-some i v e = let b = nodeAt (l .words) i .prev in C .reached .stands .links .prev-live (i .0) (b .0) v (link-some b e)
+  prev-some i v e = let b = nodeAt (l .words) i .prev in C .reached .stands .links .near .prev-live (i .0) (b .0) v (link-some b e)
 
   next-has : (i : AllocIndex) → Live (seen (l .words)) (C .count) (i .0) → LinkHas (l .words) (nodeAt (l .words) i .next)
   next-has i v e = has (nodeAt (l .words) i .next) (next-some i v e)
@@ -70,7 +70,7 @@ module _ {k : ℕ} {l : Level} (C : Climbing k l) where
   pub climbing-parent : isOnlyChild (l .words) (l .at) ≡ true → HasSlot (l .words) (nodeAt (l .words) (l .at) .parent)
   climbing-parent e =
       let p = nodeAt (l .words) (l .at) .parent in
-      has p (C .reached .stands .links .parent-live (l .at .0) (p .0) (C .reached .stands .live) (only-child (l .words) (l .at) e .2))
+      has p (C .reached .stands .links .near .parent-live (l .at .0) (p .0) (C .reached .stands .live) (only-child (l .words) (l .at) e .2))
 
   -- A climb has come to another level.
   on : {j : ℕ} {m : Level} → Reached (C .was) (C .size) (C .count) (C .root) (C .start) (C .all) (C .tree) j m → Climbing j m

@@ -42,7 +42,7 @@ module _ {s : State} (sound : Sound s) where
       let w = forest get n root (sound .rule3) in (
         w .0,
         w .1,
-        table-place get n (sound .rule3 .one-child) none none (get root .orientation) (w .0) (w .1 .along) root (w .1 .from-root) sheet (sound .rule5),
+        table-place get n (sound .rule3 .near .one-child) none none (get root .orientation) (w .0) (w .1 .along) root (w .1 .from-root) sheet (sound .rule5),
       )
 
   -- MEASURED. A measure that adds up where a rectangle is cut in two is, of the sheet, the sum over the Alloc and Free slots.

@@ -256,22 +256,24 @@ module _ (get : ℕ → Seen) (n root : ℕ) (F : Forest) (R : Represents get n 
 
   pub linked : Linked get n root
   linked = record {
-    parent-live = λ i j lv e. live-in j (parent-at i j lv e .0);
-    next-live = λ i j lv e. live-in j (next-at i j lv e .0);
-    prev-live = λ i j lv e. live-in j (prev-at i j e (hung i lv) .0);
-    next-prev = λ i j lv e. next-at i j lv e .1;
-    prev-next = λ i j lv e. prev-at i j e (hung i lv) .1;
-    same-parent = λ i j lv e. next-at i j lv e .2;
-    same-orientation = λ i j lv e. next-at i j lv e .3;
-    parent-kind = λ i j lv e. parent-at i j lv e .1;
-    parent-orientation = λ i j lv e. parent-at i j lv e .2;
-    child = λ i lv k. children-of get n none none (get root .orientation) F (R .along) i (R .all i lv) k;
-    one-child = λ i c d a b. kid-one F i c d different
-        (kid-at i c (a .parent) (a .prev) (hung c (a .live))) (kid-at i d (b .parent) (b .prev) (hung d (b .live)));
+    near = record {
+      parent-live = λ i j lv e. live-in j (parent-at i j lv e .0);
+      next-live = λ i j lv e. live-in j (next-at i j lv e .0);
+      prev-live = λ i j lv e. live-in j (prev-at i j e (hung i lv) .0);
+      next-prev = λ i j lv e. next-at i j lv e .1;
+      prev-next = λ i j lv e. prev-at i j e (hung i lv) .1;
+      same-parent = λ i j lv e. next-at i j lv e .2;
+      same-orientation = λ i j lv e. next-at i j lv e .3;
+      parent-kind = λ i j lv e. parent-at i j lv e .1;
+      parent-orientation = λ i j lv e. parent-at i j lv e .2;
+      child = λ i lv k. children-of get n none none (get root .orientation) F (R .along) i (R .all i lv) k;
+      one-child = λ i c d a b. kid-one F i c d different
+          (kid-at i c (a .parent) (a .prev) (hung c (a .live))) (kid-at i d (b .parent) (b .prev) (hung d (b .live)));
+      root-live = live-in root root-in;
+      root-parent = root-links .0;
+      root-prev = root-links .1;
+      root-only = λ i lv p v. root-at i p v (hung i lv);
+    };
     parents-end = λ i lv. parents-end get n none none (get root .orientation) F (R .along) arrived i (R .all i lv);
     nexts-end = λ i lv. all-nexts-end get n none none (get root .orientation) F (R .along) i (R .all i lv);
-    root-live = live-in root root-in;
-    root-parent = root-links .0;
-    root-prev = root-links .1;
-    root-only = λ i lv p v. root-at i p v (hung i lv);
   }

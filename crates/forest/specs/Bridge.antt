@@ -42,8 +42,12 @@ Kids get n i = (C : Forest) × Full C × Rep get n (to i) none (flip (get i .ori
 module _ (get : ℕ → Seen) (n root : ℕ) (L : Linked get n root) where
   next-fits : (p v : Link) (o : Orientation) (i : ℕ) → Fits get n p v o (to i) → (l : Link) → get i .next ≡ l → Fits get n p (to i) o l
   next-fits p v o i f none e = tt
-  next-fits p v o i f (to j) e =
-      (L .next-live i j (f .0) e, L .same-parent i j (f .0) e ∙ f .1, L .next-prev i j (f .0) e, L .same-orientation i j (f .0) e ∙ f .3)
+  next-fits p v o i f (to j) e = (
+    L .near .next-live i j (f .0) e,
+    L .near .same-parent i j (f .0) e ∙ f .1,
+    L .near .next-prev i j (f .0) e,
+    L .near .same-orientation i j (f .0) e ∙ f .3,
+  )
 
   -- One slot of the chain, given the rest of it.
   one : (p v : Link) (o : Orientation) (i : ℕ) → Fits get n p v o (to i)
@@ -76,22 +80,22 @@ module _ (get : ℕ → Seen) (n root : ℕ) (L : Linked get n root) where
   -- Parents are at most as many as the live slots, so their number bounds how deep the children go.
   depth-bound : (i d : ℕ) → Live get n i → EndsIn (λ j. get j .parent) (to i) d → d ≤ count (λ j. inUse (get j .kind)) n
   depth-bound i d lv e =
-      ends-bounded (λ j. get j .parent) (λ j. inUse (get j .kind)) n (λ a b la q. L .parent-live a b la q)
+      ends-bounded (λ j. get j .parent) (λ j. inUse (get j .kind)) n (λ a b la q. L .near .parent-live a b la q)
       (to i) (λ a q. rw (← to-inj q) lv) d e
 
   next-bound : (i d : ℕ) → Live get n i → EndsIn (λ j. get j .next) (to i) d → d ≤ count (λ j. inUse (get j .kind)) n
   next-bound i d lv e =
-      ends-bounded (λ j. get j .next) (λ j. inUse (get j .kind)) n (λ a b la q. L .next-live a b la q)
+      ends-bounded (λ j. get j .next) (λ j. inUse (get j .kind)) n (λ a b la q. L .near .next-live a b la q)
       (to i) (λ a q. rw (← to-inj q) lv) d e
 
   kids : (k d i : ℕ) → Live get n i → EndsIn (λ j. get j .parent) (to i) d → d + k ≡ suc (count (λ j. inUse (get j .kind)) n)
       → get i .kind ≡ Container → Kids get n i
   kids zero d i lv e q c = absurd (omega (arith, depth-bound i d lv e))
   kids (suc k) d i lv e q c =
-      let fc = L .child i lv c in
+      let fc = L .near .child i lv c in
       let en = ends-in (L .nexts-end (fc .0) (fc .1 .live)) in
       let o : get (fc .0) .orientation ≡ flip (get i .orientation) =
-      sym (ap flip (L .parent-orientation (fc .0) i (fc .1 .live) (fc .1 .parent)) ∙ flip-flip (get (fc .0) .orientation)) in
+      sym (ap flip (L .near .parent-orientation (fc .0) i (fc .1 .live) (fc .1 .parent)) ∙ flip-flip (get (fc .0) .orientation)) in
       let r = chain (to i) (flip (get i .orientation))
       (λ j lj pj cj. kids k (suc d) j lj (j, refl, rw pj e) (omega arith) cj)
       (en .0) none (to (fc .0)) (en .1) (fc .1 .live, fc .1 .parent, fc .1 .prev, o) in
@@ -104,10 +108,10 @@ module _ (get : ℕ → Seen) (n root : ℕ) (L : Linked get n root) where
   -- The forest.
   grown : Chain get n none none (get root .orientation) (to root)
   grown =
-      let en = ends-in (L .nexts-end root (L .root-live)) in
+      let en = ends-in (L .nexts-end root (L .near .root-live)) in
       chain none (get root .orientation)
       (λ i lv p c. kids (count (λ j. inUse (get j .kind)) n) 1 i lv (i, refl, p) (omega arith) c)
-      (en .0) none (to root) (en .1) (L .root-live, L .root-parent, L .root-prev, refl)
+      (en .0) none (to root) (en .1) (L .near .root-live, L .near .root-parent, L .near .root-prev, refl)
 
   head-in : (F : Forest) (i : ℕ) → head F ≡ to i → In i (slots F)
   head-in empty i e = absurd (no-link e)
@@ -141,7 +145,7 @@ module _ (get : ℕ → Seen) (n root : ℕ) (L : Linked get n root) where
       below : (C : Forest) → Rep get n (to a) none (flip o) C → Shape (get j .kind) C → j ≡ a → In i (slots C)
       below empty r′ sh q = absurd (rw k at sh)
       below (slot c B T) r′ sh q =
-          inl (L .one-child j i c e
+          inl (L .near .one-child j i c e
           (record { live = (r′ .0 .below, shape-live (get c .kind) B (r′ .0 .shape)); parent = r′ .0 .parent ∙ ap to (sym q); prev = r′ .0 .prev }))
 
   -- Every live slot is in the forest: back along prev to a first one, and up from there.
@@ -156,10 +160,10 @@ module _ (get : ℕ → Seen) (n root : ℕ) (L : Linked get n root) where
         e′ = rw (to-inj (e .1)) (e .2)
 
         first : (l : Link) → get i .parent ≡ l → get i .prev ≡ none → In i (slots F)
-        first none pe ve = rw (L .root-only i lv pe ve) (head-in F root hd)
+        first none pe ve = rw (L .near .root-only i lv pe ve) (head-in F root hd)
         first (to j) pe ve =
             child-in none none (get root .orientation) F R j i
-            (up j (L .parent-live i j lv pe) (rw pe at e′)) (L .parent-kind i j lv pe)
+            (up j (L .near .parent-live i j lv pe) (rw pe at e′)) (L .near .parent-kind i j lv pe)
             (record { live = lv; parent = pe; prev = ve })
 
         go : (l : Link) → get i .prev ≡ l
@@ -167,10 +171,10 @@ module _ (get : ℕ → Seen) (n root : ℕ) (L : Linked get n root) where
             → suc m + k ≡ suc (count (λ j. inUse (get j .kind)) n) → In j (slots F)) → In i (slots F)
         go none ve rec = first (get i .parent) refl ve
         go (to j) ve rec =
-            let lj = L .prev-live i j lv ve in
-            let nj = L .prev-next i j lv ve in
+            let lj = L .near .prev-live i j lv ve in
+            let nj = L .near .prev-next i j lv ve in
             next-in none none (get root .orientation) F R j i
-            (rec j lj (j, refl, rw (← L .same-parent j i lj nj) e′) (j, refl, rw nj en) (omega arith)) nj
+            (rec j lj (j, refl, rw (← L .near .same-parent j i lj nj) e′) (j, refl, rw nj en) (omega arith)) nj
 
     cover : (d i : ℕ) → Live get n i → EndsIn (λ j. get j .parent) (to i) d → In i (slots F)
     cover zero i lv e = absurd (no-link (sym e))

@@ -14,8 +14,8 @@ use Rattle.slots.specs.declared.NodeKind.{NodeKind}
 use Rattle.slots.specs.declared.NodeKind.the-variants.{Container, Alloc, Free, Unused}
 use Rattle.lists.specs.Counts.{count}
 use Rattle.sound.specs.View.{Link, none, to, Seen, Live, inUse}
-use Rattle.sound.specs.Rules.{Ends, FirstChild}
-use Rattle.sound.specs.Sound.{Linked}
+use Rattle.sound.specs.Rules.{FirstChild}
+use Rattle.sound.specs.Sound.{Neighbours, Linked}
 use Rattle.forest.specs.Flips.{flip-flip}
 use Rattle.forest.specs.Pigeon.{In, Distinct, pigeon, pigeon-all, cover-length}
 use Rattle.forest.specs.Forest.{Forest, empty, slot, head, slots, Bare, Full, Shape, Here, Rep, Represents, rep-distinct}
@@ -42,24 +42,6 @@ abbrev pub Follows : (ℕ → Link) → (ℕ → Link) → Forest → Type 0
 Follows kids next empty = Unit {0}
 Follows kids next (slot i C S) = (kids i ≡ head C) × (next i ≡ head S) × Follows kids next C × Follows kids next S
 
--- Rule 3 but for 'following parents ends, and so does following next': each part speaks of one slot and its neighbours.
-pub record Local (get : ℕ → Seen) (n root : ℕ) : Type 0 where
-  pub parent-live : (i j : ℕ) → Live get n i → get i .parent ≡ to j → Live get n j
-  pub next-live : (i j : ℕ) → Live get n i → get i .next ≡ to j → Live get n j
-  pub prev-live : (i j : ℕ) → Live get n i → get i .prev ≡ to j → Live get n j
-  pub next-prev : (i j : ℕ) → Live get n i → get i .next ≡ to j → get j .prev ≡ to i
-  pub prev-next : (i j : ℕ) → Live get n i → get i .prev ≡ to j → get j .next ≡ to i
-  pub same-parent : (i j : ℕ) → Live get n i → get i .next ≡ to j → get j .parent ≡ get i .parent
-  pub same-orientation : (i j : ℕ) → Live get n i → get i .next ≡ to j → get j .orientation ≡ get i .orientation
-  pub parent-kind : (i j : ℕ) → Live get n i → get i .parent ≡ to j → get j .kind ≡ Container
-  pub parent-orientation : (i j : ℕ) → Live get n i → get i .parent ≡ to j → get j .orientation ≡ flip (get i .orientation)
-  pub child : (i : ℕ) → Live get n i → get i .kind ≡ Container → (c : ℕ) × FirstChild get n i c
-  pub one-child : (i c d : ℕ) → FirstChild get n i c → FirstChild get n i d → c ≡ d
-  pub root-live : Live get n root
-  pub root-parent : get root .parent ≡ none
-  pub root-prev : get root .prev ≡ none
-  pub root-only : (i : ℕ) → Live get n i → get i .parent ≡ none → get i .prev ≡ none → i ≡ root
-
 -- The link that the walk takes down: a Container's first child, from a table, and none of another slot.
 abbrev pub down : NodeKind → Link → Link
 down Container l = l
@@ -67,7 +49,7 @@ down Alloc l = none
 down Free l = none
 down Unused l = none
 
-module _ (get : ℕ → Seen) (n root : ℕ) (first : ℕ → Link) (L : Local get n root)
+module _ (get : ℕ → Seen) (n root : ℕ) (first : ℕ → Link) (L : Neighbours get n root)
     (table : (i c : ℕ) → Live get n i → get i .kind ≡ Container → FirstChild get n i c → first i ≡ to c) where
   unfoldable pub kidsOf : ℕ → Link
   kidsOf i = down (get i .kind) (first i)

@@ -9,4 +9,3 @@ pub mod Tree
 pub mod Fill
 pub mod Follows
 pub mod Spare
-pub mod Audit

@@ -96,10 +96,10 @@ module _ (was : ℕ → Seen) (size n root i : ℕ) (all : Rectangle) (T : Tree)
         let S = R .stands in
         let L = S .links in
         let g = seen (l .words) in
-        let lb = L .next-live (a .0) (b .0) la e in
+        let lb = L .near .next-live (a .0) (b .0) la e in
         let ne = next-once g n root L (a .0) (b .0) la e in
         let apart : NextApart (l .words) (b .0) (a .0) =
-        λ j q. (in-table j (L .next-live (b .0) j lb q), next-once g n root L (b .0) j lb q, next-twice g n root L (a .0) (b .0) j la e q) in
+        λ j q. (in-table j (L .near .next-live (b .0) j lb q), next-once g n root L (b .0) j lb q, next-twice g n root L (a .0) (b .0) j la e q) in
         let op = absorb-writes (l .words) short (l .spare) a b (in-table (a .0) la) (in-table (b .0) lb) ne ka apart in
         let z = absorb-stands S (a .0) (b .0) f la ka e kb (op .0) (op .1) in (
           record {
@@ -146,8 +146,8 @@ module _ (was : ℕ → Seen) (size n root i : ℕ) (all : Rectangle) (T : Tree)
             let L = S .links in
             let g = seen (l .words) in
             let t = free-link (l .words) p e in
-            let lp = L .prev-live (l .at .0) (p .0) (S .live) (t .0) in
-            let z = absorb-reached p (l .at) (inr refl) lp (t .1) (L .prev-next (l .at .0) (p .0) (S .live) (t .0)) (S .free) in (
+            let lp = L .near .prev-live (l .at .0) (p .0) (S .live) (t .0) in
+            let z = absorb-reached p (l .at) (inr refl) lp (t .1) (L .near .prev-next (l .at .0) (p .0) (S .live) (t .0)) (S .free) in (
               z .0,
               record {
                 next = absorb-next g n root L _ (p .0) (l .at .0) lp (z .1) calm;
@@ -165,8 +165,8 @@ module _ (was : ℕ → Seen) (size n root i : ℕ) (all : Rectangle) (T : Tree)
       let c = l .at .0 in
       let p = nodeAt (l .words) (l .at) .parent in
       let t = only-child (l .words) (l .at) e in
-      let lp = L .parent-live c (p .0) (S .live) (t .2) in
-      let ne : p .0 ≡ c → ⊥ = λ q. other-kind refl (L .parent-kind c (p .0) (S .live) (t .2)) (ap (λ x. seen (l .words) x .kind) q ∙ S .free) in
+      let lp = L .near .parent-live c (p .0) (S .live) (t .2) in
+      let ne : p .0 ≡ c → ⊥ = λ q. other-kind refl (L .near .parent-kind c (p .0) (S .live) (t .2)) (ap (λ x. seen (l .words) x .kind) q ∙ S .free) in
       let op = give-writes (l .words) (l .spare) (l .at) p (in-table (suc k) l R c (S .live)) (in-table (suc k) l R (p .0) lp) (λ q. ne (sym q)) refl in
       let z = give-stands S (p .0) (t .2) (t .0) (t .1) (op .0) (op .1) in
       record {

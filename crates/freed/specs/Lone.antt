@@ -66,7 +66,7 @@ module _ (s : State) (S : Sound s) (quiet : (j : ℕ) → j < s .head .count →
       let k : get i .kind ≡ Free = sym (kind-first get i (get i .rect) end (get i .kind) empty (R .along .0 .shape)) ∙ ap kindFirst e in
       let w = placed-chain get n root (slot i empty empty) R (sheetOf (s .head .sheet)) (S .rule5) in
       record {
-        live = S .rule3 .root-live;
+        live = S .rule3 .near .root-live;
         only = λ j l. ⊎-elim {C = j ≡ root} (λ z. z ∙ q) (λ z. absurd z) (R .all j l);
         free = rw (← q) k;
         whole = rw (← q) (sym (w .2 ∙ leaf-was get i empty (get i .kind) refl (inr k) (w .0) (w .1)));

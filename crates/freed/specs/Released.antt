@@ -178,7 +178,7 @@ module _ (s : State) (L : LentOf s) (S : Sound s) (i : AllocIndex) (below : i .0
           let k = E .stands .since .none-new j a in
           let e : j ≡ i .0 → ⊥ = λ q. other-kind refl (ap (λ x. x .kind) (op .chosen)) (rw q at k) in
           (e, sym (ap (λ x. x .kind) (other j e)) ∙ k);
-      turned = E .stands .since .turned root (E .stands .links .root-live .1) ∙ kept (ℕ-discrete root (i .0));
+      turned = E .stands .since .turned root (E .stands .links .near .root-live .1) ∙ kept (ℕ-discrete root (i .0));
       tree = let t = E .stands .tree in
           (t .0, t .1, sym (freeing-none (treeOf (seen (m .words)) (t .0)) (tree-tidy (seen (m .words)) n (E .merged) none none _ (t .0) (t .1 .along))) ∙ t .2);
     }

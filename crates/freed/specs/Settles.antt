@@ -115,16 +115,16 @@ module _ (get get′ : ℕ → Seen) (n root : ℕ) (all : Rectangle) (P : Place
   pub give-up-settles : (i c : ℕ) → Linked get n root → GiveUp get get′ i c → Live get n c → get c .kind ≡ Free
       → get c .parent ≡ to i → get c .prev ≡ none → get c .next ≡ none → Settles get′ n root T
   give-up-settles i c L op lv k pc vc nc =
-      let a = at-in get n root i F R all P (L .parent-live c i lv pc) in
+      let a = at-in get n root i F R all P (L .near .parent-live c i lv pc) in
       go (a .0 .gap) (a .0 .below) (a .0 .after) (a .0 .whole) (a .0 .place) (a .0 .placed) (a .1)
     where
       box : get i .kind ≡ Container
-      box = L .parent-kind c i lv pc
+      box = L .near .parent-kind c i lv pc
 
       only : (K : Gap) (x : ℕ) (B U S : Forest) → Represents get n root (plug K (slot i (slot x B U) S)) → c ≡ x
       only K x B U S whole =
           let f = filled K (slot i (slot x B U) S) whole .1 .0 in
-          L .one-child i c x (record { live = lv; parent = pc; prev = vc })
+          L .near .one-child i c x (record { live = lv; parent = pc; prev = vc })
           (record { live = (f .below, shape-live (get x .kind) B (f .shape)); parent = f .parent; prev = f .prev })
 
       go : (K : Gap) (C S : Forest) → Represents get n root (plug K (slot i C S)) → (w : Rectangle) → PlaceF get (slot i C S) w

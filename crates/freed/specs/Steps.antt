@@ -137,7 +137,7 @@ module _ {was get get′ : ℕ → Seen} {n root i x : ℕ} {spare : Link} {all 
       → Absorb get get′ a b → Step get get′ n x a b
   absorb-step a b f la ka e kb op = record {
     from = f;
-    old = (S .links .next-live a b la e, kb);
+    old = (S .links .near .next-live a b la e, kb);
     taker = (la, other-kind refl ka);
     free = ap (λ m. m .kind) (op .taker);
     turned = ap (λ m. m .orientation) (op .taker);
@@ -150,7 +150,7 @@ module _ {was get get′ : ℕ → Seen} {n root i x : ℕ} {spare : Link} {all 
   give-step p e op = record {
     from = inr refl;
     old = (S .live, S .free);
-    taker = (S .links .parent-live x p (S .live) e, other-kind refl (S .links .parent-kind x p (S .live) e));
+    taker = (S .links .near .parent-live x p (S .live) e, other-kind refl (S .links .near .parent-kind x p (S .live) e));
     free = ap (λ m. m .kind) (op .taker);
     turned = ap (λ m. m .orientation) (op .taker);
     gone = op .gone;

@@ -95,7 +95,7 @@ reordered f b W = record {
 pub next-apart : {get : ℕ → Seen} {n n′ root i : ℕ} → Linked get n root → Live get n i → (new : List ℕ) → Taken get n n′ new
     → (j : ℕ) → get i .next ≡ to j → In j (i ∷ new) → ⊥
 next-apart {i = i} L lv new W j e m =
-    ⊎-elim (λ (x : j ≡ i). chain-visits-once (L .nexts-end i lv) i it (rw (e, x) it)) (λ x. W .idle j x (L .next-live i j lv e)) m
+    ⊎-elim (λ (x : j ≡ i). chain-visits-once (L .nexts-end i lv) i it (rw (e, x) it)) (λ x. W .idle j x (L .near .next-live i j lv e)) m
 
 -- EACH SHAPE
 module _ {get get′ : ℕ → Seen} {n root i : ℕ} {q all : Rectangle} (L : Linked get n root) (M : Merged get n) (P : PlaceChain get n root all)

@@ -90,7 +90,7 @@ module _ (s : State) (L : LentOf s) where
     pub next-has-slot : (i : AllocIndex) → Live (seen (s .words)) (s .head .count) (i .0) → isNone (nodeAt (s .words) i .next) ≡ false
         → HasSlot (s .words) (nodeAt (s .words) i .next)
     unfolding seen
-    next-has-slot i v e = live-has-slot (nodeAt (s .words) i .next .0) (S .rule3 .next-live (i .0) (nodeAt (s .words) i .next .0) v (link-some (nodeAt (s .words) i .next) e))
+    next-has-slot i v e = live-has-slot (nodeAt (s .words) i .next .0) (S .rule3 .near .next-live (i .0) (nodeAt (s .words) i .next .0) v (link-some (nodeAt (s .words) i .next) e))
 
     -- What the search chooses.
     pub search-picks : (e : Extent) (f : Searched) → f ≡ findSuitable (s .words) (setupAt s) e (listsOf s)

@@ -61,7 +61,7 @@ module _ (w g : List ℕ) (h : Head) {root : ℕ} {all : Rectangle} (slots : len
   next-fine : (new g′ : List ℕ) (h′ : Head) → Taking w g h new g′ h′ → (s : ℕ) → In s new → NextApart w (i .0) s
   next-fine new g′ h′ T s m j e =
       let a = next-apart L lv new (T .taken) j e in
-      let z = L .next-live (i .0) j lv e .0 in
+      let z = L .near .next-live (i .0) j lv e .0 in
       (omega arith, λ x. a (inl x), λ x. a (inr (rw x m)))
 
   -- THE TABLE. With its new slots taken, a cut of any shape carves the table.

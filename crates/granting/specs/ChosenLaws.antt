@@ -53,7 +53,7 @@ module _ (s : State) (L : LentOf s) (S : Sound s) (e : Extent) (setup : Setup) (
       record {
         spare = record { below = S .rule1 .fits; few = L .few; slots = lent-slots s L; chain = S .rule2 };
         chosen = omega (arith, p .live .0, S .rule1 .fits);
-        next = λ n. below-has _ (S .rule3 .next-live (i .0) _ (p .live) (link-some (nodeAt (s .words) i .next) n) .0);
+        next = λ n. below-has _ (S .rule3 .near .next-live (i .0) _ (p .live) (link-some (nodeAt (s .words) i .next) n) .0);
         fits = p .fits;
         lists = found-lists;
         place = p .place;

@@ -41,7 +41,7 @@ sound-growable s L S =
     record {
       top = record {
         some = top-some s L fits (S .rule3);
-        first = live-has-slot s L S (s .head .root .0) (S .rule3 .root-live);
+        first = live-has-slot s L S (s .head .root .0) (S .rule3 .near .root-live);
         chain = top-has s L fits (S .rule3);
         last = live-has-slot s L S _ (last-on-top (s .words) (s .head .count) (s .head .root .0) (S .rule3) (s .head .root) refl .0 .live);
       };

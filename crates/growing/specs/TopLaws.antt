@@ -24,10 +24,10 @@ module _ (w w′ : List ℕ) (n root : ℕ) (L : Linked (seen w) n root) (slots 
   unfolding ChainHas seen
   live-chain-has zero i lv = tt
   live-chain-has (suc k) i lv = λ e. let v = lv e in
-      (omega (arith, v .0), live-chain-has k (nodeAt w′ i .next) (λ q. L .next-live (i .0) (nodeAt w′ i .next .0) v (sym (same (i .0) v) ∙ link-some (nodeAt w′ i .next) q)))
+      (omega (arith, v .0), live-chain-has k (nodeAt w′ i .next) (λ q. L .near .next-live (i .0) (nodeAt w′ i .next .0) v (sym (same (i .0) v) ∙ link-some (nodeAt w′ i .next) q)))
 
   pub top-kept : (k : ℕ) (i : AllocIndex) → i .0 ≡ root → ChainHas k w′ i
-  top-kept k i e = live-chain-has k i (λ _. rw e (L .root-live))
+  top-kept k i e = live-chain-has k i (λ _. rw e (L .near .root-live))
 
 -- So the top chain is in the table,
 module _ (s : State) (L : LentOf s) (fits : s .head .count ≤ length (s .generations)) (T : Linked (seen (s .words)) (s .head .count) (s .head .root .0)) where
@@ -37,8 +37,8 @@ module _ (s : State) (L : LentOf s) (fits : s .head .count ≤ length (s .genera
 
   -- and so is the root,
   pub root-has : HasSlot (s .words) (s .head .root)
-  root-has = omega (arith, T .root-live .0, lent-slots s L)
+  root-has = omega (arith, T .near .root-live .0, lent-slots s L)
 
   -- which is no missing link.
   pub top-some : isNone (s .head .root) ≡ false
-  top-some = link-names (s .head .root) (s .head .root .0) (link-of-slot (s .head .root .0) (omega (arith, T .root-live .0, L .few))) .0
+  top-some = link-names (s .head .root) (s .head .root .0) (link-of-slot (s .head .root .0) (omega (arith, T .near .root-live .0, L .few))) .0

@@ -134,7 +134,7 @@ module _ (s : State) (all : Rectangle) (L : LentOf s) (S : Fills s all) (i : All
         lone = λ z. no-link {i = f .taken .0} (sym (z .1) ∙ rw (e, writes .chosen) refl);
       }
       go (no e) =
-          let same = writes .other (s .head .root .0) (⊎-elim e (λ m. T .taken .idle (s .head .root .0) m (S .rule3 .root-live))) in
+          let same = writes .other (s .head .root .0) (⊎-elim e (λ m. T .taken .idle (s .head .root .0) m (S .rule3 .near .root-live))) in
           record { orientation = rw same refl; lone = λ z. lone (rw same at (z .0), rw same at (z .1)) }
 
 -- AN APPEND after the last slot of the top chain keeps every rule.

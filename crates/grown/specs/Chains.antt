@@ -33,13 +33,13 @@ pub record OnTop (get : ℕ → Seen) (n : ℕ) (o : Orientation) (i : ℕ) : Ty
 module _ (w : List ℕ) (n root : ℕ) (L : Linked (seen w) n root) where
   -- The root is on top, and so is the next of such a slot.
   pub root-on-top : OnTop (seen w) n (seen w root .orientation) root
-  root-on-top = record { live = L .root-live; parent = L .root-parent; orientation = refl }
+  root-on-top = record { live = L .near .root-live; parent = L .near .root-parent; orientation = refl }
 
   next-on-top : (o : Orientation) (i j : ℕ) → OnTop (seen w) n o i → seen w i .next ≡ to j → OnTop (seen w) n o j
   next-on-top o i j t e = record {
-    live = L .next-live i j (t .live) e;
-    parent = L .same-parent i j (t .live) e ∙ t .parent;
-    orientation = L .same-orientation i j (t .live) e ∙ t .orientation;
+    live = L .near .next-live i j (t .live) e;
+    parent = L .near .same-parent i j (t .live) e ∙ t .parent;
+    orientation = L .near .same-orientation i j (t .live) e ∙ t .orientation;
   }
 
   -- As many links on as there are, the last slot is found.
@@ -59,9 +59,9 @@ module _ (w : List ℕ) (n root : ℕ) (L : Linked (seen w) n root) where
   -- The top chain ends within n steps.
   pub top-ends : (m : ℕ) × EndsIn (λ j. seen w j .next) (to root) m × (m ≤ n)
   top-ends =
-      let e = ends-in (L .nexts-end root (L .root-live)) in
-      let b = ends-bounded (λ j. seen w j .next) (λ j. inUse (seen w j .kind)) n (λ i j l q. L .next-live i j l q) (to root)
-      (λ i q. rw (← to-inj q) (L .root-live)) (e .0) (e .1) in
+      let e = ends-in (L .nexts-end root (L .near .root-live)) in
+      let b = ends-bounded (λ j. seen w j .next) (λ j. inUse (seen w j .kind)) n (λ i j l q. L .near .next-live i j l q) (to root)
+      (λ i q. rw (← to-inj q) (L .near .root-live)) (e .0) (e .1) in
       (e .0, e .1, omega (arith, live-count w n))
 
   -- THE LAST SLOT of the top chain is found within n links of the root.

@@ -83,7 +83,7 @@ module _ {s : State} {w′ g′ new : List ℕ} {h′ : Head} {all was : Rectang
           fits = rw (T .bytes) (T .fits);
           valid = rw (sheet, options) (S .rule1 .valid);
           within = K .filed .within;
-          root = C .grown .links .root-live .0;
+          root = C .grown .links .near .root-live .0;
           entries = K .filed .entries;
         };
         rule2 = chain-after;

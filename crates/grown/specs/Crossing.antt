@@ -73,7 +73,7 @@ module _ (w : List ℕ) (few : length w ≤ 32768) (n n′ : ℕ) (root : AllocI
       × ((Visits (λ x. seen w x .next) j (to (root .0)) → ⊥) → seen (reparented n w0 a root) j ≡ seen w0 j)
   each j =
       let e = top-ends w n (root .0) L in
-      reparented-chain (λ x. seen w x .next) a n w0 root (to (root .0)) (e .0) (slot-link w few root (has (root .0) (L .root-live .0))) (e .1) (e .2)
+      reparented-chain (λ x. seen w x .next) a n w0 root (to (root .0)) (e .0) (slot-link w few root (has (root .0) (L .near .root-live .0))) (e .1) (e .2)
       (λ i v. let z = visited-on-top w n (root .0) L i v .live in (ap (λ (y : Seen). y .next) (old i z), rw len0 (has i (z .0)))) j
 
   unseen : (j : ℕ) → In j (a .0 ∷ b .0 ∷ []) → Visits (λ x. seen w x .next) j (to (root .0)) → ⊥

@@ -32,7 +32,7 @@ module _ (get : ℕ → Seen) (n root : ℕ) (L : Linked get n root) (all : Rect
           let a = at-slot get n root i L all P lv in
           let T = slot i (a .below) (a .after) in
           let o = get root .orientation in
-          let s = table-slot-place get n (L .one-child) (parentAt (a .gap) none) (prevAt (a .gap) none) (orientationAt (a .gap) o) i (a .below) (a .after)
+          let s = table-slot-place get n (L .near .one-child) (parentAt (a .gap) none) (prevAt (a .gap) none) (orientationAt (a .gap) o) i (a .below) (a .after)
           (rep-fill get n (a .gap) T none none o (a .whole .along)) (get i .rect) (last i lv p x e) in
           place-not-empty get (a .below) (get i .rect) (rw e at s)
       go Alloc e = leaf-filled get n root L all P i lv (inl e)

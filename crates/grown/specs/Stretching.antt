@@ -85,7 +85,7 @@ pub lone-steps : (s : State) (all : Rectangle) → LentOf s → Fills s all → 
     → seen (s .words) (s .head .root .0) .kind ≡ Free → seen (s .words) (s .head .root .0) .next ≡ none
     → Fills (stretched s (s .head .root) q) q × Carries s (stretched s (s .head .root) q) 0
 lone-steps s all L S q some free x =
-    let lv = S .rule3 .root-live in
+    let lv = S .rule3 .near .root-live in
     stretch-steps s all L S (s .head .root) q lv free
     (lone-grows (seen (s .words)) (seen (stored (s .words) (s .head .root) (toRect q))) (s .head .count) (s .head .root .0) (S .rule3) all (S .rule5)
     q (stretch-writes s all L S (s .head .root) q lv free) free x some)

@@ -68,7 +68,7 @@ decided w fs root live p c f e =
 
     -- Where rule 3 holds, the first child that was entered at a Container is its one.
     right : Linked (seen w) (length fs) root → FirstsRight w fs
-    right K i c lv k h = K .one-child i _ c (f .is-first i (lv .0) (f .some i c (lv .0) h)) h
+    right K i c lv k h = K .near .one-child i _ c (f .is-first i (lv .0) (f .some i c (lv .0) h)) h
 
 pub walk-decides : {w fs ms : List ℕ} {n root live : ℕ} {m : Node} {p : Placed} → Prepared w fs ms n root → live ≡ n - unusedBelow w n
     → m ≡ nodeAt w (slot root) → Chained w fs root (linkOf (slot 4294967295)) none (m .orientation) live p → Decided w n root p

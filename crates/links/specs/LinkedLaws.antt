@@ -10,9 +10,9 @@ use Rattle.slots.specs.declared.NodeKind.the-variants.{Container}
 use Rattle.steps.specs.Spares.{unusedBelow}
 use Rattle.sound.specs.View.{Link, to, seen, Live}
 use Rattle.sound.specs.Rules.{FirstChild}
-use Rattle.sound.specs.Sound.{Linked}
+use Rattle.sound.specs.Sound.{Neighbours, Linked}
 use Rattle.forest.specs.Forest.{Forest, head}
-use Rattle.forest.specs.Follows.{Follows, Local, size, down, kidsOf, nextOf, live, linked-follows, follows-linked}
+use Rattle.forest.specs.Follows.{Follows, size, down, kidsOf, nextOf, live, linked-follows, follows-linked}
 use Rattle.links.specs.Links.{Table, linksAt}
 use Rattle.links.specs.AgreeLaws.{LinksHere, links-at-is}
 use Rattle.links.specs.FirstLaws.{Firsts}
@@ -58,7 +58,7 @@ module _ (w fs : List ℕ) (n root : ℕ) (t : Table w n) (f : Firsts w fs n) wh
     links-first-live i lv k = links-child i lv k .live
 
     -- Rule 3, but for the sentences that follow links to their end.
-    pub links-at-yes : Live (seen w) n root → Local (seen w) n root
+    pub links-at-yes : Live (seen w) n root → Neighbours (seen w) n root
     links-at-yes r =
         record {
           parent-live = λ i j lv e. here i lv .parent-live j e;
@@ -82,8 +82,8 @@ module _ (w fs : List ℕ) (n root : ℕ) (t : Table w n) (f : Firsts w fs n) wh
     pub links-table : (i c : ℕ) → Live (seen w) n i → seen w i .kind ≡ Container → FirstChild (seen w) n i c → to (getD fs i 0) ≡ to c
     links-table i c lv k h = ap to (links-entered i c h)
 
-  -- Where rule 3 holds, every slot passes the test.
-  pub links-at-no : Linked (seen w) n root → LinksPass w fs n root
+  -- Where slots and their neighbours obey rule 3, every slot passes the test.
+  pub links-at-no : Neighbours (seen w) n root → LinksPass w fs n root
   links-at-no L i b =
       links-at-is w fs n root t i b .1
       (λ lv. record {
@@ -122,7 +122,7 @@ module _ (w fs : List ℕ) (n root : ℕ) (t : Table w n) (f : Firsts w fs n) wh
 
   -- A slot that fails breaks rule 3.
   pub links-at-breaks : (i : ℕ) → i < n → linksAt w fs n root i ≡ false → Linked (seen w) n root → ⊥
-  links-at-breaks i b e L = false≢true (sym e ∙ links-at-no L i b)
+  links-at-breaks i b e L = false≢true (sym e ∙ links-at-no (L .near) i b)
 
   -- The two together.
   pub links-say-linked : LinksHold w fs n root → Linked (seen w) n root
@@ -134,6 +134,6 @@ module _ (w fs : List ℕ) (n root : ℕ) (t : Table w n) (f : Firsts w fs n) wh
   pub linked-says-links : Linked (seen w) n root → LinksHold w fs n root
   unfolding kidsOf nextOf live
   linked-says-links L =
-      let p = links-at-no L in
-      let F = linked-follows (seen w) n root (λ i. to (getD fs i 0)) (links-at-yes p (L .root-live)) (links-table p) L in
-      record { passes = p; root-live = L .root-live; forest = F .0; from-root = F .1; follows = F .2; whole = F .3 ∙ live-count w n }
+      let p = links-at-no (L .near) in
+      let F = linked-follows (seen w) n root (λ i. to (getD fs i 0)) (L .near) (links-table p) L in
+      record { passes = p; root-live = L .near .root-live; forest = F .0; from-root = F .1; follows = F .2; whole = F .3 ∙ live-count w n }

@@ -50,7 +50,7 @@ module _ (w : List ℕ) (n root : ℕ) (t : Table w n) (L : Linked (seen w) n ro
           alone false p h = absurd (h (m .parent .0) (link-some (m .parent) p))
       by-next k false q =
           let e : linkOf (m .next) ≡ to (m .next .0) = link-some (m .next) q in
-          rw (lt-leb n (m .next .0) (L .next-live i (m .next .0) (b, ap inUse k) e .0))
+          rw (lt-leb n (m .next .0) (L .near .next-live i (m .next .0) (b, ap inUse k) e .0))
           (says-as (not-say (kind-says (nodeAt w (m .next) .kind) Free))
           (λ r. (λ j d h. r (rw (← link-names (m .next) j d .1) at h), λ j d x v. no-link (sym x ∙ e)), λ h. h .0 (m .next .0) e))
 

@@ -17,7 +17,7 @@ use Rattle.lists.specs.Counts.{count}
 use Rattle.forest.specs.Pigeon.{In, pigeon-all}
 use Rattle.forest.specs.Forest.{Forest, empty, slot, head, slots, Rep, Represents, rep-distinct}
 use Rattle.forest.specs.Back.{by-place, shape-live, in-live, linked}
-use Rattle.forest.specs.Follows.{Local, size, live, kidsOf, nextOf, size-slots, linked-follows, follows-represents}
+use Rattle.forest.specs.Follows.{size, live, kidsOf, nextOf, size-slots, linked-follows, follows-represents}
 use Rattle.forest.specs.Place.{place-table, table-place, slot-table-place, table-slot-place}
 use Rattle.links.specs.LinkLaws.{no-link}
 use Rattle.links.specs.TestLaws.{Says, says-as}
@@ -93,26 +93,6 @@ module _ (w fs : List ℕ) (root : ℕ) where
         linked (seen w) (length fs) root (g .0) (represented (g .0) (g .1) (g .2 .1) (omega (arith, g .3)))
 
     module _ (R : FirstsRight w fs) (K : Linked (seen w) (length fs) root) where
-      local : Local (seen w) (length fs) root
-      local =
-          record {
-            parent-live = K .parent-live;
-            next-live = K .next-live;
-            prev-live = K .prev-live;
-            next-prev = K .next-prev;
-            prev-next = K .prev-next;
-            same-parent = K .same-parent;
-            same-orientation = K .same-orientation;
-            parent-kind = K .parent-kind;
-            parent-orientation = K .parent-orientation;
-            child = K .child;
-            one-child = K .one-child;
-            root-live = K .root-live;
-            root-parent = K .root-parent;
-            root-prev = K .root-prev;
-            root-only = K .root-only;
-          }
-
       right : (i c : ℕ) → Live (seen w) (length fs) i → seen w i .kind ≡ Container → FirstChild (seen w) (length fs) i c → to (getD fs i 0) ≡ to c
       right i c l k f = ap to (R i c l k f)
 
@@ -120,8 +100,8 @@ module _ (w fs : List ℕ) (root : ℕ) where
       whole : (F : Forest) × (head F ≡ to root) × Standing w fs none none (seen w root .orientation) F × (size F ≡ liveSlots w (length fs))
       unfolding kidsOf nextOf live kidsAt nextAt liveSlots
       whole =
-          let g = linked-follows (seen w) (length fs) root (λ i. to (getD fs i 0)) local right K in
-          let r = follows-represents (seen w) (length fs) root (λ i. to (getD fs i 0)) local right (g .0) (g .1) (g .2) (g .3) in
+          let g = linked-follows (seen w) (length fs) root (λ i. to (getD fs i 0)) (K .near) right K in
+          let r = follows-represents (seen w) (length fs) root (λ i. to (getD fs i 0)) (K .near) right (g .0) (g .1) (g .2) (g .3) in
           (g .0, g .1, (g .2, r .along), g .3)
 
       -- It ended with nothing left.
@@ -143,7 +123,7 @@ module _ (w fs : List ℕ) (root : ℕ) where
       placed-walk q h =
           let g = whole in
           placed-fits c (g .0) (g .1) (g .2) (omega (arith, g .3)) q
-          (table-place (seen w) (length fs) (K .one-child) none none (seen w root .orientation) (g .0) (g .2 .1) root (g .1) q h)
+          (table-place (seen w) (length fs) (K .near .one-child) none none (seen w root .orientation) (g .0) (g .2 .1) root (g .1) q h)
 
       -- Where it fits, its word on the last slot is rule 7.
       pub walk-stored : p .fits ≡ true → Says (p .stored) (LastTrue (seen w) (length fs))
@@ -152,5 +132,5 @@ module _ (w fs : List ℕ) (root : ℕ) where
           let r = represented (g .0) (g .1) (g .2 .1) (g .3) in
           says-as (fits-stored c (g .0) (g .1) (g .2) (omega (arith, g .3)) e) (
             λ s i lv. stored-last (seen w) (length fs) none (seen w root .orientation) (g .0) (g .2 .1) s i (r .all i lv),
-            λ t. last-stored (seen w) (length fs) (K .one-child) t none (seen w root .orientation) (g .0) (g .2 .1),
+            λ t. last-stored (seen w) (length fs) (K .near .one-child) t none (seen w root .orientation) (g .0) (g .2 .1),
           )

@@ -68,23 +68,25 @@ module _ (get : ℕ → Seen) (r : Rectangle) (is : get 0 ≡ lone r) where
   pub lone-linked : Linked get 1 0
   lone-linked =
       record {
-        parent-live = λ i j v e. absurd (no-parent i j (v .0) e);
-        next-live = λ i j v e. absurd (no-next i j (v .0) e);
-        prev-live = λ i j v e. absurd (no-prev i j (v .0) e);
-        next-prev = λ i j v e. absurd (no-next i j (v .0) e);
-        prev-next = λ i j v e. absurd (no-prev i j (v .0) e);
-        same-parent = λ i j v e. absurd (no-next i j (v .0) e);
-        same-orientation = λ i j v e. absurd (no-next i j (v .0) e);
-        parent-kind = λ i j v e. absurd (no-parent i j (v .0) e);
-        parent-orientation = λ i j v e. absurd (no-parent i j (v .0) e);
-        child = λ i v k. absurd (no-container i (v .0) k);
-        one-child = λ i c d a b. absurd (no-parent c i (a .live .0) (a .parent));
+        near = record {
+          parent-live = λ i j v e. absurd (no-parent i j (v .0) e);
+          next-live = λ i j v e. absurd (no-next i j (v .0) e);
+          prev-live = λ i j v e. absurd (no-prev i j (v .0) e);
+          next-prev = λ i j v e. absurd (no-next i j (v .0) e);
+          prev-next = λ i j v e. absurd (no-prev i j (v .0) e);
+          same-parent = λ i j v e. absurd (no-next i j (v .0) e);
+          same-orientation = λ i j v e. absurd (no-next i j (v .0) e);
+          parent-kind = λ i j v e. absurd (no-parent i j (v .0) e);
+          parent-orientation = λ i j v e. absurd (no-parent i j (v .0) e);
+          child = λ i v k. absurd (no-container i (v .0) k);
+          one-child = λ i c d a b. absurd (no-parent c i (a .live .0) (a .parent));
+          root-live = live-one 0 (omega arith);
+          root-parent = ap (λ (m : Seen). m .parent) is;
+          root-prev = ap (λ (m : Seen). m .prev) is;
+          root-only = λ i v p q. let h = v .0 in omega arith;
+        };
         parents-end = λ i v. parents-end i (v .0);
         nexts-end = λ i v. nexts-end i (v .0);
-        root-live = live-one 0 (omega arith);
-        root-parent = ap (λ (m : Seen). m .parent) is;
-        root-prev = ap (λ (m : Seen). m .prev) is;
-        root-only = λ i v p q. let h = v .0 in omega arith;
       }
 
   -- RULE 4.

@@ -57,7 +57,7 @@ spare-visits-free-not-sound s = true≢false (s .rule2 .only 0 it .1)
 -- RULE 3: the root has a parent.
 pub root-with-parent-not-sound : Sound (tables (headOf 1 0 no 1) (0 ∷ no ∷ no ∷ 2 ∷ 0 ∷ 0 ∷ 10 ∷ 10 ∷ 0 ∷ 0 ∷ 0 ∷ 3 ∷ 0 ∷ 0 ∷ 0 ∷ 0 ∷ [])) → ⊥
 unfolding seen nodeAt word linkOf
-root-with-parent-not-sound s = let e = s .rule3 .root-parent in let z : _≡_ {A = ℕ} 0 1 = cc in omega arith
+root-with-parent-not-sound s = let e = s .rule3 .near .root-parent in let z : _≡_ {A = ℕ} 0 1 = cc in omega arith
 
 -- RULE 4: two Free siblings.
 pub free-siblings-not-sound : Sound (tables (headOf 2 0 no 2) (no ∷ 1 ∷ no ∷ 2 ∷ 0 ∷ 0 ∷ 10 ∷ 4 ∷ no ∷ no ∷ 0 ∷ 2 ∷ 0 ∷ 4 ∷ 10 ∷ 10 ∷ [])) → ⊥

@@ -34,8 +34,9 @@ pub record SpareChain (get : ℕ → Seen) (n : ℕ) (spare : Link) : Type 0 whe
   pub only : (i : ℕ) → Visits (λ j. get j .next) i spare → Dead get n i
   pub ends : Ends (λ j. get j .next) spare
 
--- RULE 3.
-pub record Linked (get : ℕ → Seen) (n root : ℕ) : Type 0 where
+-- RULE 3, as far as it speaks of a slot and its neighbours: links live, agreeing, siblings alike, parents Containers, first children, root.
+-- (That following links ends stands below, in `Linked`.)
+pub record Neighbours (get : ℕ → Seen) (n root : ℕ) : Type 0 where
   -- A live slot's link is none or names a live slot.
   pub parent-live : (i j : ℕ) → Live get n i → get i .parent ≡ to j → Live get n j
   pub next-live : (i j : ℕ) → Live get n i → get i .next ≡ to j → Live get n j
@@ -52,14 +53,18 @@ pub record Linked (get : ℕ → Seen) (n root : ℕ) : Type 0 where
   -- and every Container has exactly one child without prev.
   pub child : (i : ℕ) → Live get n i → get i .kind ≡ Container → (c : ℕ) × FirstChild get n i c
   pub one-child : (i c d : ℕ) → FirstChild get n i c → FirstChild get n i d → c ≡ d
-  -- Following parents ends, and so does following next.
-  pub parents-end : (i : ℕ) → Live get n i → Ends (λ j. get j .parent) (to i)
-  pub nexts-end : (i : ℕ) → Live get n i → Ends (λ j. get j .next) (to i)
   -- Root is the only live slot with neither parent nor prev.
   pub root-live : Live get n root
   pub root-parent : get root .parent ≡ none
   pub root-prev : get root .prev ≡ none
   pub root-only : (i : ℕ) → Live get n i → get i .parent ≡ none → get i .prev ≡ none → i ≡ root
+
+-- RULE 3, whole.
+pub record Linked (get : ℕ → Seen) (n root : ℕ) : Type 0 where
+  pub near : Neighbours get n root
+  -- Following parents ends, and so does following next.
+  pub parents-end : (i : ℕ) → Live get n i → Ends (λ j. get j .parent) (to i)
+  pub nexts-end : (i : ℕ) → Live get n i → Ends (λ j. get j .next) (to i)
 
 -- RULE 4.
 pub record Merged (get : ℕ → Seen) (n : ℕ) : Type 0 where

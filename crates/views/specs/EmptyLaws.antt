@@ -142,7 +142,7 @@ module _ {s : State} (S : Sound s) where
 
   -- A Free root without next is the whole sheet.
   lone-whole : get root .kind ≡ Free → get root .next ≡ none → WholeFree s
-  lone-whole k e = (root, S .rule3 .root-live .0, k, lone-rect (S .rule5) k e)
+  lone-whole k e = (root, S .rule3 .near .root-live .0, k, lone-rect (S .rule5) k e)
 
   -- THE ROOT. One Free slot is the whole sheet exactly where the root is Free and has no next.
   pub whole-free-at-root : Says (loneFree (s .words) (s .head .root)) (WholeFree s)
@@ -154,12 +154,12 @@ module _ {s : State} (S : Sound s) where
   -- THE ONLY SLOT. One Free slot is the whole sheet exactly where it is the only live slot.
   pub whole-free-only : WholeFree s ↔ OnlyFree s
   whole-free-only = (
-    λ w. let a = whole-free-alone w in (root, S .rule3 .root-live, a .0, a .2),
-    λ o. lone-whole (rw (o .3 root (S .rule3 .root-live)) (o .2)) (last (get root .next) refl (o .3)),
+    λ w. let a = whole-free-alone w in (root, S .rule3 .near .root-live, a .0, a .2),
+    λ o. lone-whole (rw (o .3 root (S .rule3 .near .root-live)) (o .2)) (last (get root .next) refl (o .3)),
   )
     where
       last : {i : ℕ} (l : Link) → get root .next ≡ l → ((j : ℕ) → Live get n j → j ≡ i) → get root .next ≡ none
       last none e only = e
       last (to j) e only =
-          let same : j ≡ root = only j (S .rule3 .next-live root j (S .rule3 .root-live) e) ∙ sym (only root (S .rule3 .root-live)) in
-          absurd (no-link (sym (S .rule3 .root-prev) ∙ (ap (λ (x : ℕ). get x .prev) (sym same) ∙ S .rule3 .next-prev root j (S .rule3 .root-live) e)))
+          let same : j ≡ root = only j (S .rule3 .near .next-live root j (S .rule3 .near .root-live) e) ∙ sym (only root (S .rule3 .near .root-live)) in
+          absurd (no-link (sym (S .rule3 .near .root-prev) ∙ (ap (λ (x : ℕ). get x .prev) (sym same) ∙ S .rule3 .near .next-prev root j (S .rule3 .near .root-live) e)))
