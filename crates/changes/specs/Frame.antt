@@ -12,9 +12,10 @@ use Rattle.slots.specs.declared.NodeKind.{NodeKind}
 use Rattle.slots.specs.declared.NodeKind.the-variants.{Container, Alloc, Free, Unused}
 use Rattle.sound.specs.View.{Link, none, to, Seen, Live}
 use Rattle.sound.specs.Rules.{PlaceChain}
+use Rattle.sound.specs.ViewLaws.{to-inj, no-link}
 use Rattle.forest.specs.Pigeon.{In}
 use Rattle.forest.specs.Forest.{Forest, empty, slot, head, slots, Shape, Here, Rep, Represents, in-left, in-right, in-children, in-after}
-use Rattle.forest.specs.Back.{to-inj, no-link, linked}
+use Rattle.forest.specs.Back.{linked}
 use Rattle.forest.specs.Place.{SlotAt, Then, PlaceF, place-table, table-place}
 use Rattle.forest.specs.Fill.{below-placed, after-placed}
 use Rattle.changes.specs.Gaps.{Gap, here, under, past, plug, rim, parentAt, prevAt, orientationAt, fill-in, rim-in, plug-head}

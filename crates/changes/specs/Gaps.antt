@@ -7,9 +7,10 @@ use mathlib.Core.List.{List, [], _∷_, _++_}
 use Rattle.geometry.specs.Rectangles.{flip}
 use Rattle.geometry.specs.declared.Orientation.{Orientation}
 use Rattle.sound.specs.View.{Link, none, to, Seen}
+use Rattle.sound.specs.ViewLaws.{to-inj, no-link}
 use Rattle.forest.specs.Pigeon.{In, Distinct}
 use Rattle.forest.specs.Forest.{Forest, empty, slot, head, slots, Rep, in-left, in-right, in-cases, in-children, in-after}
-use Rattle.forest.specs.Back.{to-inj, no-link, by-place, distinct-left, distinct-right, distinct-apart}
+use Rattle.forest.specs.Back.{by-place, distinct-left, distinct-right, distinct-apart}
 
 -- A forest with a gap: the gap is all of it, or among a slot's children, or after a slot.
 pub data Gap : Type 0 where

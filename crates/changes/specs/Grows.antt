@@ -14,10 +14,11 @@ use Rattle.slots.specs.declared.NodeKind.the-variants.{Container, Alloc, Free, 
 use Rattle.sound.specs.View.{Link, none, to, Seen, Live}
 use Rattle.sound.specs.Rules.{NotEmpty, Adjoin, join, PlaceChain}
 use Rattle.sound.specs.Sound.{Linked, LastTrue}
+use Rattle.sound.specs.ViewLaws.{to-inj, no-link}
 use Rattle.forest.specs.Pigeon.{In}
 use Rattle.forest.specs.Forest.{Forest, empty, slot, slots, Rep, Represents, in-left, in-children, in-after}
 use Rattle.forest.specs.Bridge.{forest}
-use Rattle.forest.specs.Back.{to-inj, no-link, by-place, in-live, linked}
+use Rattle.forest.specs.Back.{by-place, in-live, linked}
 use Rattle.forest.specs.Place.{SlotAt, PlaceF, table-slot-place}
 use Rattle.forest.specs.Fill.{join-not-empty}
 use Rattle.changes.specs.Gaps.{here}

@@ -10,9 +10,10 @@ use Rattle.slots.specs.declared.NodeKind.the-variants.{Container}
 use Rattle.sound.specs.View.{Link, none, to, Seen}
 use Rattle.sound.specs.Rules.{PlaceSlot}
 use Rattle.sound.specs.Sound.{LastTrue}
+use Rattle.sound.specs.ViewLaws.{no-link}
 use Rattle.forest.specs.Pigeon.{In}
-use Rattle.forest.specs.Forest.{Forest, empty, slot, head, slots, Rep, Represents, in-left, in-right, in-children, in-after}
-use Rattle.forest.specs.Back.{no-link, by-place, shape-live, linked}
+use Rattle.forest.specs.Forest.{Forest, empty, slot, head, slots, Rep, Represents, in-left, in-right, in-children, in-after, shape-live}
+use Rattle.forest.specs.Back.{by-place, linked}
 use Rattle.forest.specs.Place.{SlotAt, PlaceF, slot-table-place, table-slot-place}
 use Rattle.changes.specs.Gaps.{Gap, here, under, past, plug, rim, plug-head}
 use Rattle.changes.specs.Frame.{SameBody, place-same, place-replace}

@@ -14,9 +14,9 @@ use Rattle.slots.specs.declared.NodeKind.the-variants.{Container, Alloc, Free, 
 use Rattle.sound.specs.View.{Link, none, to, Seen, Live, inUse}
 use Rattle.sound.specs.Rules.{Leaf, join, PlaceChain}
 use Rattle.sound.specs.Sound.{Linked}
+use Rattle.sound.specs.ViewLaws.{to-inj, no-link}
 use Rattle.forest.specs.Pigeon.{In}
-use Rattle.forest.specs.Forest.{Forest, empty, slot, head, Rep}
-use Rattle.forest.specs.Back.{to-inj, no-link, shape-live}
+use Rattle.forest.specs.Forest.{Forest, empty, slot, head, Rep, shape-live}
 use Rattle.forest.specs.Place.{PlaceF}
 use Rattle.forest.specs.Fill.{join-not-empty}
 use Rattle.changes.specs.Swaps.{Elsewhere, none-taken, Swapped, Kept, step-keeps}

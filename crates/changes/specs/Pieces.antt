@@ -18,9 +18,9 @@ use Rattle.slots.specs.declared.NodeKind.the-variants.{Free}
 use Rattle.sound.specs.View.{Link, none, to, Seen, Live}
 use Rattle.sound.specs.Rules.{Leaf, NotEmpty, Adjoin, join, PlaceChain}
 use Rattle.sound.specs.Sound.{Linked}
+use Rattle.sound.specs.ViewLaws.{to-inj, no-link}
 use Rattle.forest.specs.Forest.{Forest, empty, slot, head, Rep, Represents}
 use Rattle.forest.specs.Bridge.{forest}
-use Rattle.forest.specs.Back.{to-inj, no-link}
 use Rattle.forest.specs.Place.{PlaceF}
 use Rattle.forest.specs.Fill.{place-not-empty}
 use Rattle.changes.specs.Gaps.{rep-fill}

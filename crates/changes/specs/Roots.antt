@@ -14,11 +14,12 @@ use Rattle.slots.specs.declared.NodeKind.the-variants.{Container, Free}
 use Rattle.sound.specs.View.{Link, none, to, Seen, Live, inUse}
 use Rattle.sound.specs.Rules.{NotEmpty, Adjoin, join, PlaceChain}
 use Rattle.sound.specs.Sound.{Linked}
+use Rattle.sound.specs.ViewLaws.{no-link}
 use Rattle.forest.specs.Flips.{flip-flip}
 use Rattle.forest.specs.Pigeon.{In, In-dec}
-use Rattle.forest.specs.Forest.{Forest, empty, slot, head, slots, Full, Rep, Represents, in-children, in-after}
+use Rattle.forest.specs.Forest.{Forest, empty, slot, head, slots, Full, Rep, Represents, in-children, in-after, shape-live}
 use Rattle.forest.specs.Bridge.{forest}
-use Rattle.forest.specs.Back.{no-link, shape-live, in-live, linked}
+use Rattle.forest.specs.Back.{in-live, linked}
 use Rattle.changes.specs.Frame.{SameBody, same-body, rep-same, place-same, held-represents, chain-placed, placed-chain}
 use Rattle.changes.specs.Lasts.{below-parent, forest-last}
 use Rattle.changes.specs.Swaps.{Taken}

@@ -11,9 +11,10 @@ use Rattle.slots.specs.declared.NodeKind.the-variants.{Container, Alloc, Free, 
 use Rattle.sound.specs.View.{Link, none, to, Seen, Live}
 use Rattle.sound.specs.Rules.{Adjoin, join, PlaceChain}
 use Rattle.sound.specs.Sound.{Linked, LastTrue}
+use Rattle.sound.specs.ViewLaws.{no-link}
 use Rattle.forest.specs.Pigeon.{In, Distinct}
 use Rattle.forest.specs.Forest.{Forest, empty, slot, head, slots, Rep, in-left, in-right, rep-distinct}
-use Rattle.forest.specs.Back.{no-link, linked}
+use Rattle.forest.specs.Back.{linked}
 use Rattle.forest.specs.Place.{SlotAt, Then, PlaceF}
 use Rattle.changes.specs.Gaps.{Gap, here, under, past, plug, rim, parentAt, prevAt, orientationAt, fill-in, plug-head, distinct-fill, rep-fill}
 use Rattle.changes.specs.Joins.{join-adjoins, adjoins-join}

@@ -11,10 +11,11 @@ use Rattle.geometry.specs.declared.Rectangle.{Rectangle}
 use Rattle.sound.specs.View.{Link, none, to, Seen, Live, inUse}
 use Rattle.sound.specs.Rules.{PlaceChain}
 use Rattle.sound.specs.Sound.{Linked, LastTrue}
+use Rattle.sound.specs.ViewLaws.{to-inj, no-link}
 use Rattle.forest.specs.Pigeon.{In, Distinct, In-dec}
 use Rattle.forest.specs.Forest.{Forest, empty, slot, head, slots, Rep, Represents, in-left, in-right, in-cases, in-children, in-after, rep-distinct}
 use Rattle.forest.specs.Bridge.{forest}
-use Rattle.forest.specs.Back.{to-inj, no-link, by-place, in-live, linked}
+use Rattle.forest.specs.Back.{by-place, in-live, linked}
 use Rattle.forest.specs.Place.{PlaceF}
 use Rattle.changes.specs.Gaps.{Gap, plug, rim, parentAt, prevAt, orientationAt, locate, in-plug, rim-in, rim-apart, distinct-fill, rep-fill}
 use Rattle.changes.specs.Frame.{SameBody, same-body, rep-same, place-fill, placed-chain, frame, frame-placed}

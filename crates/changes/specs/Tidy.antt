@@ -11,8 +11,8 @@ use Rattle.slots.specs.declared.NodeKind.{NodeKind}
 use Rattle.slots.specs.declared.NodeKind.the-variants.{Container, Alloc, Free}
 use Rattle.sound.specs.View.{Link, none, to, Seen, Live, inUse}
 use Rattle.sound.specs.Sound.{Linked, Merged}
+use Rattle.sound.specs.ViewLaws.{to-inj, no-link}
 use Rattle.forest.specs.Pigeon.{In, In-dec}
-use Rattle.forest.specs.Back.{to-inj, no-link}
 use Rattle.changes.specs.Swaps.{Elsewhere, Taken, none-taken}
 use Rattle.changes.specs.Merges.{Rekind}
 use Rattle.changes.specs.Grants.{Along, AlongLeft, Across, AcrossLeft}

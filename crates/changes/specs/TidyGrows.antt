@@ -10,8 +10,8 @@ use Rattle.geometry.specs.declared.Rectangle.{Rectangle}
 use Rattle.slots.specs.declared.NodeKind.the-variants.{Free}
 use Rattle.sound.specs.View.{none, to, Seen, Live, inUse}
 use Rattle.sound.specs.Sound.{Linked, Merged}
+use Rattle.sound.specs.ViewLaws.{no-link}
 use Rattle.forest.specs.Pigeon.{In, In-dec}
-use Rattle.forest.specs.Back.{no-link}
 use Rattle.changes.specs.Swaps.{Taken}
 use Rattle.changes.specs.Stretches.{free-box}
 use Rattle.changes.specs.Grows.{Stretch, Append}

@@ -11,9 +11,10 @@ use Rattle.geometry.specs.declared.Rectangle.{Rectangle}
 use Rattle.slots.specs.declared.NodeKind.the-variants.{Container, Free, Unused}
 use Rattle.sound.specs.View.{Link, none, to, Seen, Live, inUse}
 use Rattle.sound.specs.Rules.{Adjoin, join}
+use Rattle.sound.specs.ViewLaws.{no-link}
 use Rattle.forest.specs.Pigeon.{In, Distinct}
 use Rattle.forest.specs.Forest.{Forest, empty, slot, head, slots, Rep, in-right, in-cases, in-children, in-after}
-use Rattle.forest.specs.Back.{no-link, by-place, in-live, distinct-right, distinct-apart}
+use Rattle.forest.specs.Back.{by-place, in-live, distinct-right, distinct-apart}
 use Rattle.forest.specs.Place.{Then, PlaceF}
 use Rattle.changes.specs.Gaps.{head-in}
 use Rattle.changes.specs.Joins.{join-adjoins, adjoins-join, second-adjoins, adjoins-first}

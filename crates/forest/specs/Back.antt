@@ -12,19 +12,14 @@ use Rattle.geometry.specs.declared.Rectangle.{Rectangle}
 use Rattle.slots.specs.declared.NodeKind.{NodeKind}
 use Rattle.slots.specs.declared.NodeKind.the-variants.{Container, Alloc, Free, Unused}
 use Rattle.sound.specs.View.{Link, none, to, Seen, Live, inUse}
+use Rattle.sound.specs.ViewLaws.{to-inj, no-link}
 use Rattle.sound.specs.Rules.{Ends, arrived, onward, FirstChild}
 use Rattle.sound.specs.Sound.{Linked}
 use Rattle.forest.specs.Flips.{flip-flip}
 use Rattle.forest.specs.Pigeon.{In, Distinct}
-use Rattle.forest.specs.Forest.{Forest, empty, slot, head, slots, Bare, Full, Shape, Here, Rep, Represents, in-slot, in-left, in-right, in-children, in-after, rep-distinct}
+use Rattle.forest.specs.Forest.{Forest, empty, slot, head, slots, Bare, Full, Shape, Here, Rep, Represents, in-slot, in-left, in-right, in-children, in-after, rep-distinct, shape-live}
 
 -- Links to slots are the same where the slots are, and no slot is none.
-pub to-inj : {i j : ℕ} → to i ≡ to j → i ≡ j
-to-inj p = cc
-
-pub no-link : {i : ℕ} → none ≡ to i → ⊥
-no-link p = let z : _≡_ {A = ℕ} 0 1 = cc in omega arith
-
 pub by-place : {G : Type 0} (j i : ℕ) (C S : Forest) → (j ≡ i → G) → (In j (slots C) → G) → (In j (slots S) → G)
     → In j (slots (slot i C S)) → G
 by-place {G} j i C S f g h m = ⊎-elim {C = G} f (⊎-elim {C = G} g h) (in-slot j i C S m)
@@ -41,13 +36,6 @@ pub distinct-apart : (xs ys : List ℕ) → Distinct (xs ++ ys) → (a : ℕ) �
 distinct-apart [] ys d a l r = l
 distinct-apart (x ∷ xs) ys d a l r =
     ⊎-elim (λ e. d .0 (in-right xs ys x (rw (← e) r))) (λ m. distinct-apart xs ys (d .1) a m r) l
-
--- A slot of the forest is in use.
-pub shape-live : (k : NodeKind) (C : Forest) → Shape k C → inUse k ≡ true
-shape-live Container C h = refl
-shape-live Alloc C h = refl
-shape-live Free C h = refl
-shape-live Unused C h = absurd h
 
 -- A slot with something below it is a Container.
 shape-container : (k : NodeKind) (C : Forest) (j : ℕ) → Shape k C → In j (slots C) → k ≡ Container

@@ -13,18 +13,13 @@ use Rattle.slots.specs.declared.NodeKind.{NodeKind}
 use Rattle.slots.specs.declared.NodeKind.the-variants.{Container, Alloc, Free, Unused}
 use Rattle.lists.specs.Counts.{count}
 use Rattle.sound.specs.View.{Link, none, to, Seen, Live, inUse}
+use Rattle.sound.specs.ViewLaws.{to-inj, no-link}
 use Rattle.sound.specs.Rules.{Ends, FirstChild}
 use Rattle.sound.specs.Sound.{Linked}
 use Rattle.forest.specs.Flips.{flip-flip}
 use Rattle.forest.specs.Pigeon.{In}
 use Rattle.forest.specs.Ends.{EndsIn, ends-in, ends-bounded}
-use Rattle.forest.specs.Forest.{Forest, empty, slot, head, slots, Bare, Full, Shape, Here, Rep, Represents, in-slot, in-children, in-after}
-
-to-inj : {i j : ℕ} → to i ≡ to j → i ≡ j
-to-inj p = cc
-
-no-link : {i : ℕ} → none ≡ to i → ⊥
-no-link p = let z : _≡_ {A = ℕ} 0 1 = cc in omega arith
+use Rattle.forest.specs.Forest.{Forest, empty, slot, head, slots, Bare, Full, Shape, Here, Rep, Represents, in-slot, in-children, in-after, shape-live}
 
 -- What is known of the slot that a link names, where a chain is to be found.
 abbrev Fits : (ℕ → Seen) → ℕ → Link → Link → Orientation → Link → Type 0
@@ -125,12 +120,6 @@ module _ (get : ℕ → Seen) (n root : ℕ) (L : Linked get n root) where
       (λ m. ⊎-elim {C = In i (slots (slot a C S))}
       (λ c. in-children i a C S (next-in (to a) none (flip o) C (r .1) j i c e))
       (λ s. in-after i a C S (next-in p (to a) o S (r .2) j i s e)) m) (in-slot j a C S h)
-
-  shape-live : (k : NodeKind) (C : Forest) → Shape k C → inUse k ≡ true
-  shape-live Container C h = refl
-  shape-live Alloc C h = refl
-  shape-live Free C h = refl
-  shape-live Unused C h = absurd h
 
   -- So is the first child of one.
   child-in : (p v : Link) (o : Orientation) (F : Forest) → Rep get n p v o F → (j i : ℕ) → In j (slots F)

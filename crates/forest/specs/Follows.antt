@@ -14,19 +14,14 @@ use Rattle.slots.specs.declared.NodeKind.{NodeKind}
 use Rattle.slots.specs.declared.NodeKind.the-variants.{Container, Alloc, Free, Unused}
 use Rattle.lists.specs.Counts.{count}
 use Rattle.sound.specs.View.{Link, none, to, Seen, Live, inUse}
+use Rattle.sound.specs.ViewLaws.{to-inj, no-link}
 use Rattle.sound.specs.Rules.{FirstChild}
 use Rattle.sound.specs.Sound.{Neighbours, Linked}
 use Rattle.forest.specs.Flips.{flip-flip}
 use Rattle.forest.specs.Pigeon.{In, Distinct, pigeon, pigeon-all, cover-length}
-use Rattle.forest.specs.Forest.{Forest, empty, slot, head, slots, Bare, Full, Shape, Here, Rep, Represents, rep-distinct}
+use Rattle.forest.specs.Forest.{Forest, empty, slot, head, slots, Bare, Full, Shape, Here, Rep, Represents, rep-distinct, shape-live}
 use Rattle.forest.specs.Bridge.{forest}
 use Rattle.forest.specs.Back.{linked, in-live}
-
-to-inj : {i j : ℕ} → to i ≡ to j → i ≡ j
-to-inj p = cc
-
-no-link : {i : ℕ} → none ≡ to i → ⊥
-no-link p = let z : _≡_ {A = ℕ} 0 1 = cc in omega arith
 
 unfoldable pub size : Forest → ℕ
 size empty = 0
@@ -56,12 +51,6 @@ module _ (get : ℕ → Seen) (n root : ℕ) (first : ℕ → Link) (L : Neighbo
 
   unfoldable pub nextOf : ℕ → Link
   nextOf i = get i .next
-
-  shape-live : (k : NodeKind) (C : Forest) → Shape k C → inUse k ≡ true
-  shape-live Container C h = refl
-  shape-live Alloc C h = refl
-  shape-live Free C h = refl
-  shape-live Unused C h = absurd h
 
   rep-follows : (p v : Link) (o : Orientation) (F : Forest) → Rep get n p v o F → Follows kidsOf nextOf F
   unfolding kidsOf nextOf

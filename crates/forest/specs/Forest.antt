@@ -14,6 +14,7 @@ use Rattle.geometry.specs.declared.Rectangle.{Rectangle}
 use Rattle.slots.specs.declared.NodeKind.{NodeKind}
 use Rattle.slots.specs.declared.NodeKind.the-variants.{Container, Alloc, Free, Unused}
 use Rattle.sound.specs.View.{Link, none, to, Seen, Live, inUse}
+use Rattle.sound.specs.ViewLaws.{to-inj}
 use Rattle.sound.specs.Rules.{Ends}
 use Rattle.forest.specs.Pigeon.{In, Distinct}
 use Rattle.forest.specs.Ends.{EndsIn, ends-unique}
@@ -45,6 +46,13 @@ Shape Container C = Full C
 Shape Alloc C = Bare C
 Shape Free C = Bare C
 Shape Unused C = ⊥
+
+-- A slot of a forest is in use.
+pub shape-live : (k : NodeKind) (C : Forest) → Shape k C → inUse k ≡ true
+shape-live Container C h = refl
+shape-live Alloc C h = refl
+shape-live Free C h = refl
+shape-live Unused C h = absurd h
 
 -- What the table says of one slot of the forest.
 pub record Here (n : ℕ) (m : Seen) (p v : Link) (o : Orientation) (i : ℕ) (C : Forest) (after : Link) : Type 0 where
@@ -111,9 +119,6 @@ upOf get i = orElse (get i .prev) (get i .parent)
 abbrev Reach : (ℕ → Link) → Link → ℕ → ℕ → Type 0
 Reach f l zero a = l ≡ to a
 Reach f l (suc m) a = (i : ℕ) × (l ≡ to i) × Reach f (f i) m a
-
-to-inj : {i j : ℕ} → to i ≡ to j → i ≡ j
-to-inj p = cc
 
 reach-one : (f : ℕ → Link) (l : Link) (m a b : ℕ) → Reach f l m a → Reach f l m b → a ≡ b
 reach-one f l zero a b r s = to-inj (sym r ∙ s)

@@ -11,9 +11,10 @@ use Rattle.geometry.specs.declared.Rectangle.{Rectangle}
 use Rattle.slots.specs.declared.NodeKind.{NodeKind}
 use Rattle.slots.specs.declared.NodeKind.the-variants.{Container, Alloc, Free, Unused}
 use Rattle.sound.specs.View.{Link, none, to, Seen, Live, inUse}
+use Rattle.sound.specs.ViewLaws.{to-inj, no-link}
 use Rattle.sound.specs.Rules.{FirstChild, Leaf, NotEmpty, Adjoin, join, PlaceSlot, own, children, PlaceChain, last, more}
 use Rattle.forest.specs.Flips.{flip-flip}
-use Rattle.forest.specs.Forest.{Forest, empty, slot, head, slots, Bare, Full, Shape, Here, Rep}
+use Rattle.forest.specs.Forest.{Forest, empty, slot, head, slots, Bare, Full, Shape, Here, Rep, shape-live}
 
 -- A slot's place, from its own rectangle or from its children's place.
 abbrev pub SlotAt : NodeKind → Rectangle → (Rectangle → Type 0) → Rectangle → Type 0
@@ -33,12 +34,6 @@ PlaceF get (slot i C S) r =
     (q : Rectangle) × SlotAt (get i .kind) (get i .rect) (PlaceF get C) q × Then S (get i .orientation) q (PlaceF get S) r
 
 module _ (get : ℕ → Seen) (n : ℕ) where
-  shape-live : (k : NodeKind) (C : Forest) → Shape k C → inUse k ≡ true
-  shape-live Container C h = refl
-  shape-live Alloc C h = refl
-  shape-live Free C h = refl
-  shape-live Unused C h = absurd h
-
   first-of : (i c : ℕ) (o : Orientation) (B U : Forest) → Rep get n (to i) none o (slot c B U) → FirstChild get n i c
   first-of i c o B U r =
       record { live = (r .0 .below, shape-live (get c .kind) B (r .0 .shape)); parent = r .0 .parent; prev = r .0 .prev }
@@ -92,12 +87,6 @@ module _ (get : ℕ → Seen) (n : ℕ) where
   chain-parts : {i : ℕ} {r : Rectangle} → PlaceChain get n i r → ChainParts i r
   chain-parts (last e p) = inl (e, p)
   chain-parts (more {j = j} {r = q} {s = s} e p c a) = inr (j, q, s, e, p, c, a, refl)
-
-  to-inj : {i j : ℕ} → to i ≡ to j → i ≡ j
-  to-inj p = cc
-
-  no-link : {i : ℕ} → none ≡ to i → ⊥
-  no-link p = let z : _≡_ {A = ℕ} 0 1 = cc in omega arith
 
   -- Given that a Container has one first child.
   module _ (single : (i c d : ℕ) → FirstChild get n i c → FirstChild get n i d → c ≡ d) where

@@ -8,6 +8,7 @@ use native.Mathlib.Omega.{arith}
 use borrow.Author.Tests.{not-true}
 use Rattle.lists.specs.Counts.{count}
 use Rattle.sound.specs.View.{Link, none, to, Seen, inUse, Dead}
+use Rattle.sound.specs.ViewLaws.{to-inj}
 use Rattle.sound.specs.Rules.{Ends, onward, Visits, it, later}
 use Rattle.sound.specs.Sound.{SpareChain}
 use Rattle.forest.specs.Pigeon.{In, pigeon, pigeon-all, cover-length}
@@ -24,9 +25,6 @@ path-visits f l (suc k) e a h =
 pub none-visits : {f : ℕ → Link} {a : ℕ} {l : Link} → Visits f a l → l ≡ none → ⊥
 none-visits it e = let z : _≡_ {A = ℕ} 0 1 = cc in omega arith
 none-visits (later v) e = let z : _≡_ {A = ℕ} 0 1 = cc in omega arith
-
-to-inj : {i j : ℕ} → to i ≡ to j → i ≡ j
-to-inj p = cc
 
 -- Following a link to slot i visits i, and what following i's own link visits.
 pub visits-step : {f : ℕ → Link} {a : ℕ} {l : Link} → Visits f a l → (i : ℕ) → l ≡ to i → (a ≡ i) ⊎ Visits f a (f i)

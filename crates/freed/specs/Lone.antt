@@ -9,9 +9,10 @@ use Rattle.slots.specs.declared.NodeKind.the-variants.{Container, Alloc, Free, 
 use Rattle.steps.specs.State.{State}
 use Rattle.sound.specs.View.{none, Seen, seen}
 use Rattle.sound.specs.Sound.{Sound, sheetOf}
+use Rattle.sound.specs.ViewLaws.{to-inj, no-link}
 use Rattle.forest.specs.Pigeon.{In}
 use Rattle.forest.specs.Forest.{Forest, empty, slot, slots, Represents, in-children, in-after}
-use Rattle.forest.specs.Back.{to-inj, no-link, in-live}
+use Rattle.forest.specs.Back.{in-live}
 use Rattle.forest.specs.Bridge.{forest}
 use Rattle.forest.specs.Tree.{Tree, end, alloc, free, box, before, treeOf}
 use Rattle.changes.specs.Frame.{placed-chain}

@@ -17,7 +17,7 @@ use Rattle.slots.specs.declared.NodeKind.the-variants.{Free}
 use Rattle.steps.specs.Spares.{markedUnused}
 use Rattle.sound.specs.View.{to, linkOf, Seen, seen}
 use Rattle.sound.specs.Rules.{join}
-use Rattle.forest.specs.Back.{to-inj, no-link}
+use Rattle.sound.specs.ViewLaws.{to-inj, no-link}
 use Rattle.links.specs.LinkLaws.{link-none, link-some}
 use Rattle.changes.specs.Stands.{cell}
 use Rattle.changes.specs.Merges.{Absorb, GiveUp}

@@ -13,9 +13,9 @@ use Rattle.slots.specs.declared.NodeKind.the-variants.{Container, Alloc, Free}
 use Rattle.sound.specs.View.{Link, none, to, Seen, Live}
 use Rattle.sound.specs.Rules.{join, PlaceChain}
 use Rattle.sound.specs.Sound.{Linked}
+use Rattle.sound.specs.ViewLaws.{to-inj, no-link}
 use Rattle.forest.specs.Pigeon.{In, Distinct}
-use Rattle.forest.specs.Forest.{Forest, empty, slot, slots, Rep, Represents, in-left, in-right, in-children, in-after, rep-distinct}
-use Rattle.forest.specs.Back.{to-inj, no-link, shape-live}
+use Rattle.forest.specs.Forest.{Forest, empty, slot, slots, Rep, Represents, in-left, in-right, in-children, in-after, rep-distinct, shape-live}
 use Rattle.forest.specs.Place.{PlaceF}
 use Rattle.forest.specs.Tree.{Tree, treeOf}
 use Rattle.changes.specs.Gaps.{Gap, here, under, past, plug, rim, parentAt, prevAt, orientationAt, distinct-fill, rep-fill}

@@ -10,8 +10,7 @@ use Rattle.slots.specs.declared.NodeKind.{NodeKind}
 use Rattle.slots.specs.declared.NodeKind.the-variants.{Container, Alloc, Free, Unused}
 use Rattle.sound.specs.View.{Link, none, to, Seen, inUse}
 use Rattle.sound.specs.Sound.{Merged}
-use Rattle.forest.specs.Forest.{Forest, empty, slot, Rep}
-use Rattle.forest.specs.Back.{shape-live}
+use Rattle.forest.specs.Forest.{Forest, empty, slot, Rep, shape-live}
 use Rattle.forest.specs.Tree.{Tree, before, treeOf}
 use Rattle.freed.specs.Folds.{NotFree, Some, Kids, Tidy}
 

@@ -12,8 +12,8 @@ use Rattle.slots.specs.declared.NodeKind.the-variants.{Container, Alloc, Free}
 use Rattle.sound.specs.View.{Link, none, to, Seen, Live, inUse}
 use Rattle.sound.specs.Rules.{NotEmpty, PlaceChain, it}
 use Rattle.sound.specs.Sound.{Linked, Merged}
+use Rattle.sound.specs.ViewLaws.{to-inj, no-link}
 use Rattle.forest.specs.Pigeon.{In}
-use Rattle.forest.specs.Back.{to-inj, no-link}
 use Rattle.forest.specs.Spare.{chain-visits-once}
 use Rattle.changes.specs.Swaps.{withPrev, Elsewhere, Taken, Kept}
 use Rattle.changes.specs.Merges.{Rekind, rekind-keeps}

@@ -18,10 +18,10 @@ use Rattle.steps.specs.declared.Head.{Head}
 use Rattle.sound.specs.View.{Link, none, to, linkOf, Seen, seen, inUse, Dead}
 use Rattle.sound.specs.Rules.{Ends, arrived, onward, Visits, it, later}
 use Rattle.sound.specs.Sound.{SpareChain}
+use Rattle.sound.specs.ViewLaws.{to-inj, no-link}
 use Rattle.forest.specs.Pigeon.{In, Distinct}
 use Rattle.forest.specs.Ends.{EndsIn, in-ends, ends-unique}
 use Rattle.forest.specs.Spare.{none-visits, visits-step, chain-visits-once, spare-steps}
-use Rattle.forest.specs.Back.{to-inj, no-link}
 use Rattle.links.specs.LinkLaws.{link-none, link-some, link-of-slot}
 use Rattle.links.specs.SpareLaws.{unused-count}
 use Rattle.changes.specs.Swaps.{Taken, none-taken}

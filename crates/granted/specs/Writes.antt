@@ -18,8 +18,8 @@ use Rattle.slots.specs.declared.AllocIndex.{AllocIndex}
 use Rattle.slots.specs.declared.NodeKind.{NodeKind}
 use Rattle.slots.specs.declared.NodeKind.the-variants.{Alloc, Free}
 use Rattle.sound.specs.View.{Link, none, to, linkOf, Seen, seen, seenAs}
+use Rattle.sound.specs.ViewLaws.{to-inj, no-link}
 use Rattle.forest.specs.Pigeon.{In}
-use Rattle.forest.specs.Back.{to-inj, no-link}
 use Rattle.links.specs.LinkLaws.{link-none, link-some, link-of-slot}
 use Rattle.changes.specs.Stands.{cell}
 use Rattle.changes.specs.Swaps.{Elsewhere}

@@ -20,8 +20,8 @@ use Rattle.steps.specs.State.{State, listsOf}
 use Rattle.steps.specs.declared.Head.{Head}
 use Rattle.sound.specs.View.{none, linkOf, Seen, seen, Live}
 use Rattle.sound.specs.Rules.{NotEmpty, Adjoin, join}
+use Rattle.sound.specs.ViewLaws.{no-link}
 use Rattle.forest.specs.Pigeon.{In}
-use Rattle.forest.specs.Back.{no-link}
 use Rattle.changes.specs.Stretches.{Grown}
 use Rattle.changes.specs.Grows.{Append, append-grows}
 use Rattle.changes.specs.TidyGrows.{append-merged}

@@ -12,10 +12,11 @@ use Rattle.table.specs.Table.{nodeAt}
 use Rattle.sound.specs.View.{Link, none, to, Seen, seen, inUse, Live}
 use Rattle.sound.specs.Rules.{Visits, it, later}
 use Rattle.sound.specs.Sound.{Linked}
+use Rattle.sound.specs.ViewLaws.{to-inj, no-link}
 use Rattle.forest.specs.Pigeon.{In}
 use Rattle.forest.specs.Ends.{EndsIn, ends-in, ends-bounded}
 use Rattle.forest.specs.Forest.{Forest, empty, slot, head, slots, Rep}
-use Rattle.forest.specs.Back.{to-inj, no-link, by-place}
+use Rattle.forest.specs.Back.{by-place}
 use Rattle.forest.specs.Bridge.{forest}
 use Rattle.links.specs.LinkLaws.{link-none, link-some}
 use Rattle.links.specs.SpareLaws.{live-count}

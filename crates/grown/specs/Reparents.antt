@@ -15,9 +15,9 @@ use Rattle.table.specs.Stores.{stored, toParent}
 use Rattle.table.specs.TableLaws.{length-stored, has-stored}
 use Rattle.sound.specs.View.{Link, to, linkOf, Seen, seen}
 use Rattle.sound.specs.Rules.{Visits, it, later}
+use Rattle.sound.specs.ViewLaws.{to-inj, no-link}
 use Rattle.forest.specs.Ends.{EndsIn, in-ends}
 use Rattle.forest.specs.Spare.{none-visits, visits-step, chain-visits-once}
-use Rattle.forest.specs.Back.{to-inj, no-link}
 use Rattle.links.specs.LinkLaws.{link-none, link-some}
 use Rattle.changes.specs.Roots.{withParent}
 use Rattle.granted.specs.Writes.{seen-same, seen-other}

@@ -13,14 +13,9 @@ use Rattle.slots.specs.declared.AllocIndex.{AllocIndex}
 use Rattle.slots.specs.declared.NodeKind.{NodeKind}
 use Rattle.slots.specs.declared.NodeKind.the-variants.{Container, Alloc, Free, Unused}
 use Rattle.sound.specs.View.{none, to, linkOf, seen, inUse, Live}
+use Rattle.sound.specs.ViewLaws.{to-inj, no-link}
 use Rattle.links.specs.Links.{liveAt, linkAt}
 use Rattle.links.specs.TestLaws.{Says, both-say, less-says}
-
-pub to-inj : {i j : ℕ} → to i ≡ to j → i ≡ j
-to-inj p = cc
-
-pub no-link : {i : ℕ} → none ≡ to i → ⊥
-no-link p = let z : _≡_ {A = ℕ} 0 1 = cc in omega arith
 
 -- A number that isn't the none-link spells a link to the slot of that number,
 pub link-some : (l : AllocIndex) → isNone l ≡ false → linkOf l ≡ to (l .0)

@@ -15,9 +15,10 @@ use Rattle.slots.specs.declared.Node.{Node}
 use Rattle.slots.specs.declared.NodeKind.the-variants.{Free}
 use Rattle.sound.specs.View.{none, to, linkOf, Seen, seen, inUse, Live}
 use Rattle.sound.specs.Sound.{Linked, Merged}
+use Rattle.sound.specs.ViewLaws.{no-link}
 use Rattle.links.specs.Links.{Table, mergedAt}
 use Rattle.links.specs.TestLaws.{Says, fails, where-says, says-as, not-say, kind-says}
-use Rattle.links.specs.LinkLaws.{no-link, link-none, link-some, link-names}
+use Rattle.links.specs.LinkLaws.{link-none, link-some, link-names}
 
 -- Rule 4 of slot i: a Free slot isn't followed by another, and with a parent it has a sibling.
 pub record MergedHere (get : ℕ → Seen) (i : ℕ) : Type 0 where

@@ -17,10 +17,10 @@ use Rattle.slots.specs.declared.NodeKind.{NodeKind}
 use Rattle.slots.specs.declared.NodeKind.the-variants.{Container, Alloc, Free, Unused}
 use Rattle.sound.specs.View.{Link, to, Seen, seen}
 use Rattle.sound.specs.Rules.{NotEmpty, Adjoin, join}
+use Rattle.sound.specs.ViewLaws.{to-inj, no-link}
 use Rattle.forest.specs.Forest.{Forest, empty, slot, head}
 use Rattle.forest.specs.Follows.{Follows, size}
 use Rattle.forest.specs.Place.{SlotAt, Then, PlaceF}
-use Rattle.links.specs.LinkLaws.{to-inj, no-link}
 use Rattle.links.specs.TestLaws.{Says, both-say, says-as, equal-says}
 use Rattle.joins.specs.Joins.{sameRect, adjoins}
 use Rattle.places.specs.Places.{kidsAt, nextAt, Fitting, Standing, StoredF, Chained}

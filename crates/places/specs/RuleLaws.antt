@@ -13,13 +13,13 @@ use Rattle.slots.specs.declared.NodeKind.the-variants.{Container}
 use Rattle.sound.specs.View.{Link, none, to, Seen, seen, inUse, Live}
 use Rattle.sound.specs.Rules.{FirstChild, PlaceSlot, PlaceChain}
 use Rattle.sound.specs.Sound.{Linked, LastTrue}
+use Rattle.sound.specs.ViewLaws.{no-link}
 use Rattle.lists.specs.Counts.{count}
 use Rattle.forest.specs.Pigeon.{In, pigeon-all}
-use Rattle.forest.specs.Forest.{Forest, empty, slot, head, slots, Rep, Represents, rep-distinct}
-use Rattle.forest.specs.Back.{by-place, shape-live, in-live, linked}
+use Rattle.forest.specs.Forest.{Forest, empty, slot, head, slots, Rep, Represents, rep-distinct, shape-live}
+use Rattle.forest.specs.Back.{by-place, in-live, linked}
 use Rattle.forest.specs.Follows.{size, live, kidsOf, nextOf, size-slots, linked-follows, follows-represents}
 use Rattle.forest.specs.Place.{place-table, table-place, slot-table-place, table-slot-place}
-use Rattle.links.specs.LinkLaws.{no-link}
 use Rattle.links.specs.TestLaws.{Says, says-as}
 use Rattle.places.specs.Places.{kidsAt, nextAt, Standing, StoredAt, AtLast, StoredF, Chained}
 use Rattle.places.specs.PlaceLaws.{standing-ended, fits-placed, fits-stored, placed-fits}

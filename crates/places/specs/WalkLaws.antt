@@ -23,11 +23,11 @@ use Rattle.slots.specs.declared.NodeKind.{NodeKind}
 use Rattle.slots.specs.declared.NodeKind.the-variants.{Container, Alloc, Free, Unused}
 use Rattle.sound.specs.View.{Link, none, to, linkOf, Seen, seen, inUse}
 use Rattle.sound.specs.Rules.{Adjoin, join}
-use Rattle.forest.specs.Forest.{Forest, empty, slot, head, Shape}
+use Rattle.sound.specs.ViewLaws.{to-inj, no-link}
+use Rattle.forest.specs.Forest.{Forest, empty, slot, head, Shape, shape-live}
 use Rattle.forest.specs.Follows.{size, down}
-use Rattle.forest.specs.Back.{shape-live}
 use Rattle.forest.specs.Place.{SlotAt, PlaceF}
-use Rattle.links.specs.LinkLaws.{to-inj, no-link, link-none, link-some, link-of-slot, same-link-says, in-use-says}
+use Rattle.links.specs.LinkLaws.{link-none, link-some, link-of-slot, same-link-says, in-use-says}
 use Rattle.links.specs.TestLaws.{Says, fails, both-say, says-as, less-says, kind-says, orientation-says}
 use Rattle.joins.specs.Joins.{adjoins, outOfSlots, nothingYet, ownPlace, storedAs, together, added}
 use Rattle.standing.specs.Standing.{standsAs, isLone, loneAt, heldBy}

@@ -10,15 +10,13 @@ use Rattle.geometry.specs.declared.Rectangle.{Rectangle}
 use Rattle.slots.specs.declared.NodeKind.{NodeKind}
 use Rattle.slots.specs.declared.NodeKind.the-variants.{Container, Alloc, Free, Unused}
 use Rattle.sound.specs.View.{Link, none, to, Seen, inUse, Live, Dead}
+use Rattle.sound.specs.ViewLaws.{no-link}
 use Rattle.sound.specs.Rules.{Ends, arrived, onward, Visits, it, later, FirstChild, NotEmpty, PlaceSlot, own, PlaceChain, last}
 use Rattle.sound.specs.Sound.{SpareChain, Linked, Merged, LastTrue}
 
 -- A Free slot with a rectangle and no links.
 abbrev pub lone : Rectangle → Seen
 lone r = record { parent = none; next = none; prev = none; kind = Free; orientation = Vertical; rect = r }
-
-no-link : {j : ℕ} → none ≡ to j → ⊥
-no-link p = let z : _≡_ {A = ℕ} 0 1 = cc in omega arith
 
 none-visits : {f : ℕ → Link} {a : ℕ} {l : Link} → Visits f a l → l ≡ none → ⊥
 none-visits it e = let z : _≡_ {A = ℕ} 0 1 = cc in omega arith

@@ -1,4 +1,5 @@
 pub mod View
+pub mod ViewLaws
 pub mod Rules
 pub mod Sound
 pub mod Examples

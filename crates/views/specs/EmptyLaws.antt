@@ -16,11 +16,12 @@ use Rattle.steps.specs.State.{State}
 use Rattle.sound.specs.View.{Link, none, to, Seen, seen, Live}
 use Rattle.sound.specs.Rules.{Leaf, PlaceSlot, own, children, PlaceChain, last, more}
 use Rattle.sound.specs.Sound.{Sound, sheetOf}
+use Rattle.sound.specs.ViewLaws.{to-inj, no-link}
 use Rattle.forest.specs.Pigeon.{In, Distinct}
 use Rattle.forest.specs.Forest as forest
 use Rattle.forest.specs.Forest.{Forest, empty, head, slots, Bare, Full, Shape, Rep, Represents, rep-distinct}
 use Rattle.forest.specs.Bridge as bridge
-use Rattle.forest.specs.Back.{to-inj, no-link, distinct-left, distinct-apart, in-live}
+use Rattle.forest.specs.Back.{distinct-left, distinct-apart, in-live}
 use Rattle.links.specs.LinkLaws.{link-none}
 use Rattle.links.specs.TestLaws.{Says, both-say, says-as, kind-says}
 use Rattle.cover.specs.Sums.{rectAt}
