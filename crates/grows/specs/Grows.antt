@@ -1,7 +1,7 @@
 -- GROW on sound tables: a single Free root stretches. Otherwise along the root's orientation stretch the last slot or append (1 slot);
 -- across it take a Free slot, then a new zero-rectangle root (2 slots).
 -- Assumes nothing.
-use mathlib.Core.Bool.{Bool, _&&_, not}
+use mathlib.Core.Bool.{_&&_, not}
 use mathlib.Core.List.{List}
 use Prim.Native.Nat.{ℕ, zero, suc, _+_, _-_}
 use lib.Dec.{ltb}
@@ -26,6 +26,7 @@ use Rattle.steps.specs.Spares.{newNode}
 use Rattle.steps.specs.State.{State, state, listsOf}
 use Rattle.steps.specs.declared.Head.{Head}
 use Rattle.sound.specs.Sound.{sheetOf}
+use Rattle.lone.specs.Lone.{loneFree}
 use Rattle.entries.specs.Entries.{entered}
 use Rattle.grants.specs.Carves.{pairUnder}
 use Rattle.grants.specs.Grants.{withLists}
@@ -112,10 +113,6 @@ grownAcross s r =
     let w = reparented (s .head .count) (pairUnder (s .words) none (flip o) (t .taken) Container noRect (f .taken) r) (t .taken) (s .head .root) in
     withLists (withRoot (t .head) (t .taken)) w (t .generations) (entered w (ownSetup s) (f .taken) r (listsOf s))
 
--- A single Free root.
-unfoldable pub isLone : State → Bool
-isLone s = freeEntry (s .words) (s .head .root .0) && isNone (nodeAt (s .words) (s .head .root) .next)
-
 -- Along, then across, each if the sheet grows that way.
 unfoldable pub grownBoth : State → Size → Size → State
 grownBoth s old new =
@@ -128,7 +125,7 @@ grownBoth s old new =
 unfoldable pub grown : State → Size → State
 grown s new =
     let t = state (withSheet (s .head) new) (s .words) (s .generations) (s .small) (s .medium) (s .large) in
-    pick (isLone s) (stretched t (s .head .root) (sheetOf new)) (grownBoth t (s .head .sheet) new)
+    pick (loneFree (s .words) (s .head .root)) (stretched t (s .head .root) (sheetOf new)) (grownBoth t (s .head .sheet) new)
 
 -- New slots needed: none for a single Free root; else 1 to append and 2 across.
 unfoldable pub growSlots : State → Size → ℕ
@@ -136,4 +133,4 @@ growSlots s new =
     let o = nodeAt (s .words) (s .head .root) .orientation in
     let d = growth (s .head .sheet) new in
     let i = lastFrom (s .head .count) (s .words) (s .head .root) in
-    pick (isLone s) 0 (pick (ltb 0 (along o d) && not (freeEntry (s .words) (i .0))) 1 0 + pick (ltb 0 (along (flip o) d)) 2 0)
+    pick (loneFree (s .words) (s .head .root)) 0 (pick (ltb 0 (along o d) && not (freeEntry (s .words) (i .0))) 1 0 + pick (ltb 0 (along (flip o) d)) 2 0)

@@ -1,36 +1,21 @@
-// Grow in the slot table: a single Free root, the last slot of a chain, another parent for a chain, the rectangles of a grow, and an entry that moves.
+// Grow in the slot table: the last slot of a chain, another parent for a chain, the rectangles of a grow, and an entry that moves.
 use buckets::Lengths;
 use geometry::Extent;
 use geometry::Orientation;
 use geometry::Rectangle;
 use geometry::Setup;
 use slots::AllocIndex;
-use slots::Node;
-use slots::NodeKind;
 ghost use mathlib.Core.Path.{_≡_};
-ghost use mathlib.Core.Bool.{false, _&&_};
+ghost use mathlib.Core.Bool.{false};
 ghost use Prim.Native.Nat.{_+_, _^_, _<_, _≤_};
 ghost use Rattle.geometry.specs.Sides.{extentOf};
 ghost use Rattle.geometry.specs.declared.Size.{Size};
-ghost use Rattle.slots.specs.Slots.{isNone, sameKind};
-ghost use Rattle.slots.specs.declared.NodeKind.the-variants.{Free};
+ghost use Rattle.slots.specs.Slots.{isNone};
 ghost use Rattle.table.specs.Table.{HasSlot};
 ghost use Rattle.buckets.specs.FreeLists.{lists};
 ghost use Rattle.entries.specs.Entries.{ListsReady};
 ghost use Rattle.grows.specs.Grows.{moved, lastFrom, reparented, stretchedRect, appendedRect, stripRect};
 ghost use Rattle.stretches.specs.Chains.{ChainHas};
-
-// Whether a root is a single Free slot.
-pub fn is_lone(root: Node) -> bool
-    ensures { λ r. ⌜ r ≡ (sameKind (root .kind) Free && isNone (root .next)) ⌝ }
-{
-    let kind = root.kind;
-    let next = root.next;
-    if slots::same_kind(kind, NodeKind::Free) {
-        return slots::is_none(next);
-    }
-    false
-}
 
 // The last slot of the chain from slot i, at most n links on.
 pub fn last_of(words: &[u32], n: u32, i: AllocIndex) -> AllocIndex

@@ -9,7 +9,6 @@ use native.Mathlib.Decide.{ℕ-discrete}
 use Rattle.geometry.specs.Rectangles.{flip}
 use Rattle.geometry.specs.declared.Orientation.{Orientation}
 use Rattle.geometry.specs.declared.Rectangle.{Rectangle}
-use Rattle.table.specs.Table.{nodeAt}
 use Rattle.slots.specs.declared.NodeKind.{NodeKind}
 use Rattle.slots.specs.declared.NodeKind.the-variants.{Container, Alloc, Free, Unused}
 use Rattle.steps.specs.State.{State}
@@ -21,11 +20,12 @@ use Rattle.forest.specs.Forest as forest
 use Rattle.forest.specs.Forest.{Forest, empty, head, slots, Bare, Full, Shape, Rep, Represents, rep-distinct}
 use Rattle.forest.specs.Bridge as bridge
 use Rattle.forest.specs.Back.{to-inj, no-link, distinct-left, distinct-apart, in-live}
-use Rattle.links.specs.LinkLaws.{link-none}
-use Rattle.links.specs.TestLaws.{Says, both-say, says-as, kind-says}
+use Rattle.links.specs.TestLaws.{Says, says-as}
+use Rattle.lone.specs.Lone.{loneFree}
+use Rattle.lone.specs.LoneLaws.{lone-says}
 use Rattle.cover.specs.Sums.{rectAt}
 use Rattle.cover.specs.Covered.{leaves-apart, ticket-on-sheet}
-use Rattle.views.specs.Views.{WholeFree, OnlyFree, loneFree}
+use Rattle.views.specs.Views.{WholeFree, OnlyFree}
 
 -- Kinds that differ.
 free-not : {k : NodeKind} {G : Type 0} → k ≡ Free → (k ≡ Alloc) ⊎ (k ≡ Container) → G
@@ -146,10 +146,7 @@ module _ {s : State} (S : Sound s) where
 
   -- THE ROOT. One Free slot is the whole sheet exactly where the root is Free and has no next.
   pub whole-free-at-root : Says (loneFree (s .words) (s .head .root)) (WholeFree s)
-  unfolding loneFree seen
-  whole-free-at-root =
-      says-as (both-say (kind-says (nodeAt (s .words) (s .head .root) .kind) Free) (link-none (nodeAt (s .words) (s .head .root) .next)))
-      (λ h. lone-whole (h .0) (h .1), λ w. let a = whole-free-alone w in (a .0, a .1))
+  whole-free-at-root = says-as (lone-says (s .words) (s .head .root)) (λ h. lone-whole (h .0) (h .1), λ w. let a = whole-free-alone w in (a .0, a .1))
 
   -- THE ONLY SLOT. One Free slot is the whole sheet exactly where it is the only live slot.
   pub whole-free-only : WholeFree s ↔ OnlyFree s

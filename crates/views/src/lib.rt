@@ -1,34 +1,18 @@
 // What can be read off the tables: a ticket's rectangle, the listings, whether the sheet is empty, and its size.
 use listings::Listing;
-use slots::AllocIndex;
 use slots::NodeKind;
 use steps::Head;
 ghost use mathlib.Core.Path.{_≡_};
-ghost use Rattle.table.specs.Table.{HasSlot};
 ghost use Rattle.slots.specs.declared.NodeKind.the-variants.{Alloc, Free};
 ghost use Rattle.steps.specs.State.{state};
 ghost use Rattle.audit.specs.Answers.{given};
 ghost use Rattle.listings.specs.Listings.{filled};
-ghost use Rattle.views.specs.Views.{ListCall, loneFree, EmptyCall};
+ghost use Rattle.views.specs.Views.{ListCall, EmptyCall};
 
 // A number of the paper's list, with whether the sheet is empty.
 pub struct Emptiness {
     pub answer: u32,
     pub empty: bool,
-}
-
-// Whether the root is Free and has no next.
-fn is_lone_free(words: &[u32], root: AllocIndex) -> bool
-    requires { ⌜ HasSlot (now words) root ⌝ }
-    ensures { λ r. ⌜ r ≡ loneFree (now (words .entry)) root ⌝ }
-{
-    let node = table::node_at(words, root);
-    let kind = node.kind;
-    if !slots::same_kind(kind, NodeKind::Free) {
-        return false;
-    }
-    let next = node.next;
-    slots::is_none(next)
 }
 
 // The listing of a kind, into a lent list. 12: the lent list is shorter than the listing.
@@ -127,7 +111,7 @@ pub fn is_empty(
     let root = head.root;
     Emptiness {
         answer: 0,
-        empty: is_lone_free(words, root),
+        empty: lone::is_lone(words, root),
     }
 }
 

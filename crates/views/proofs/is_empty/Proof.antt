@@ -12,11 +12,11 @@ check-requires c κs = search needs
 returns : tie.Need-returns
 returns c = answers-checked (c .before .check .ensures) (c .if1 .taken) refl
 
-is-lone-free-requires : tie.Need-is-lone-free-requires
-is-lone-free-requires c κs = let a = c .before .before .before .before .before .before .before .before .args in checked-root (state (a .head) (a .words .now) (a .generations .now) (a .small .now) (a .medium .now) (a .large .now)) (c .before .before .check .ensures) (c .before .if1 .left)
+is-lone-requires : tie.Need-is-lone-requires
+is-lone-requires c κs = let a = c .before .before .before .before .before .before .before .before .args in checked-root (state (a .head) (a .words .now) (a .generations .now) (a .small .now) (a .medium .now) (a .large .now)) (c .before .before .check .ensures) (c .before .if1 .left)
 
 returns-2 : tie.Need-returns-2
-returns-2 c = answers-core (c .before .before .before .check .ensures) (c .before .before .if1 .left) refl (c .is-lone-free .ensures)
+returns-2 c = answers-core (c .before .before .before .check .ensures) (c .before .before .if1 .left) refl (c .is-lone .ensures)
 
 pub is-empty-spec : {M : Type 1} → statement M
-is-empty-spec = tie.close (tie.spec check-requires returns is-lone-free-requires returns-2)
+is-empty-spec = tie.close (tie.spec check-requires returns is-lone-requires returns-2)

@@ -1,8 +1,8 @@
 use Rattle.links.specs.TestLaws.{passed, failed}
-use Rattle.views.specs.Views.{loneFree}
+use Rattle.lone.specs.Lone.{loneFree}
 use borrow.Author.Needs.{needs}
-use Rattle.views.proofs.is_lone_free.Statement.{statement}
-use Rattle.views.proofs.is_lone_free.Tie as tie
+use Rattle.lone.proofs.is_lone.Statement.{statement}
+use Rattle.lone.proofs.is_lone.Tie as tie
 
 node-at-requires : tie.Need-node-at-requires
 node-at-requires c κs = search needs
@@ -21,6 +21,6 @@ returns-2 : tie.Need-returns-2
 unfolding loneFree
 returns-2 c = rw (← c .before .before .before .before .node-at .ensures, passed (c .before .before .before .same-kind .ensures) (c .before .before .if1 .left)) (c .is-none .ensures)
 
-pub is-lone-free-spec : {M : Type 1} → statement M
-is-lone-free-spec =
+pub is-lone-spec : {M : Type 1} → statement M
+is-lone-spec =
     tie.close (tie.spec node-at-requires same-kind-requires returns is-none-requires returns-2)
