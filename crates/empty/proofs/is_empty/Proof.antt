@@ -3,8 +3,8 @@ use Rattle.steps.specs.State.{state}
 use Rattle.audit.specs.AnswerLaws.{answers-checked, answers-core}
 use Rattle.lookup.specs.HeldLaws.{checked-root}
 use borrow.Author.Needs.{needs}
-use Rattle.views.proofs.is_empty.Statement.{statement}
-use Rattle.views.proofs.is_empty.Tie as tie
+use Rattle.empty.proofs.is_empty.Statement.{statement}
+use Rattle.empty.proofs.is_empty.Tie as tie
 
 check-requires : tie.Need-check-requires
 check-requires c κs = search needs

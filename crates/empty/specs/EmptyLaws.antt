@@ -25,7 +25,7 @@ use Rattle.lone.specs.Lone.{loneFree}
 use Rattle.lone.specs.LoneLaws.{lone-says}
 use Rattle.cover.specs.Sums.{rectAt}
 use Rattle.cover.specs.Covered.{leaves-apart, ticket-on-sheet}
-use Rattle.views.specs.Views.{WholeFree, OnlyFree}
+use Rattle.empty.specs.Empty.{WholeFree, OnlyFree}
 
 -- Kinds that differ.
 free-not : {k : NodeKind} {G : Type 0} → k ≡ Free → (k ≡ Alloc) ⊎ (k ≡ Container) → G
