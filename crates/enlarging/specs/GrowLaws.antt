@@ -9,7 +9,7 @@ use borrow.Author.Tests.{lt-ltb, le-ltb}
 use Rattle.geometry.specs.Choice.{pick}
 use Rattle.geometry.specs.Rectangles.{flip}
 use Rattle.geometry.specs.SideLaws.{sheet-side}
-use Rattle.geometry.specs.Sides.{natural, validSetup, setupOf}
+use Rattle.geometry.specs.Sides.{natural, extentOf, validSetup, setupOf}
 use Rattle.geometry.specs.TestLaws.{and-true-each}
 use Rattle.geometry.specs.declared.AllocatorOptions.{AllocatorOptions}
 use Rattle.geometry.specs.declared.Orientation.{Orientation}
@@ -29,7 +29,8 @@ use Rattle.lone.specs.LoneLaws.{lone-says}
 use Rattle.lent.specs.Lent.{LentOf}
 use Rattle.granted.specs.SoundFacts.{lists-ready}
 use Rattle.granted.specs.Terms.{spareAt}
-use Rattle.grows.specs.Grows.{withSheet, growth, along, stretchedRect, stripRect, stretched, grownAlong, grownBoth, grown, growSlots}
+use Rattle.strips.specs.Strips.{along, stretchedRect, stripRect}
+use Rattle.grows.specs.Grows.{withSheet, growth, stretched, grownAlong, grownBoth, grown, growSlots}
 use Rattle.grown.specs.Both.{runsAt, lastAt, needsAlong, needsAcross, Reaches, between}
 use Rattle.grown.specs.Fills.{Fills}
 use Rattle.grown.specs.Terms.{GrowDue}
@@ -58,7 +59,8 @@ growth-fits Horizontal old new w h = omega arith
 
 -- The strip has its corners in order.
 strip-upright : (o : Orientation) (old new : Size) → natural (old .width) ≤ natural (new .width) → natural (old .height) ≤ natural (new .height)
-    → (stripRect o old new .x0 ≤ stripRect o old new .x1) × (stripRect o old new .y0 ≤ stripRect o old new .y1)
+    → (stripRect o (extentOf old) (extentOf new) .x0 ≤ stripRect o (extentOf old) (extentOf new) .x1)
+    × (stripRect o (extentOf old) (extentOf new) .y0 ≤ stripRect o (extentOf old) (extentOf new) .y1)
 strip-upright Vertical old new w h = (omega arith, h)
 strip-upright Horizontal old new w h = (w, omega arith)
 

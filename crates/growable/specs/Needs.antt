@@ -18,7 +18,8 @@ use Rattle.lists.specs.Lists.{freeEntry}
 use Rattle.steps.specs.State.{State}
 use Rattle.links.specs.TestLaws.{Says, refuted, both-say, not-say, kind-says}
 use Rattle.lone.specs.LoneLaws.{lone-says}
-use Rattle.grows.specs.Grows.{growth, along, lastFrom, growSlots}
+use Rattle.strips.specs.Strips.{along}
+use Rattle.grows.specs.Grows.{growth, lastFrom, growSlots}
 use Rattle.grown.specs.Fills.{Lone}
 
 -- The root's orientation, and the one across it.

@@ -7,10 +7,9 @@ use Prim.Native.Nat.{ℕ, zero, suc, _+_, _-_}
 use lib.Dec.{ltb}
 use Rattle.geometry.specs.Choice.{pick}
 use Rattle.geometry.specs.Rectangles.{flip, noRect}
-use Rattle.geometry.specs.Sides.{natural, setupOf}
+use Rattle.geometry.specs.Sides.{natural, extentOf, setupOf}
 use Rattle.geometry.specs.declared.Extent.{Extent}
 use Rattle.geometry.specs.declared.Orientation.{Orientation}
-use Rattle.geometry.specs.declared.Orientation.the-variants.{Vertical, Horizontal}
 use Rattle.geometry.specs.declared.Rectangle.{Rectangle}
 use Rattle.geometry.specs.declared.Setup.{Setup}
 use Rattle.geometry.specs.declared.Size.{Size}
@@ -26,6 +25,7 @@ use Rattle.steps.specs.Spares.{newNode}
 use Rattle.steps.specs.State.{State, state, listsOf}
 use Rattle.steps.specs.declared.Head.{Head}
 use Rattle.sound.specs.Sound.{sheetOf}
+use Rattle.strips.specs.Strips.{along, stretchedRect, appendedRect, stripRect}
 use Rattle.lone.specs.Lone.{loneFree}
 use Rattle.entries.specs.Entries.{entered}
 use Rattle.grants.specs.Carves.{pairUnder}
@@ -43,11 +43,6 @@ unfoldable pub growth : Size → Size → Extent
 growth old new =
     record { width = natural (new .width) - natural (old .width); height = natural (new .height) - natural (old .height) }
 
--- By how much it grows along an orientation: Vertical runs down y, Horizontal along x.
-abbrev pub along : Orientation → Extent → ℕ
-along Vertical d = d .height
-along Horizontal d = d .width
-
 -- A moved entry: first occurrence, buckets small to large, swap-removed, then pushed.
 abbrev pub moved : List ℕ → Setup → AllocIndex → Rectangle → Lists → Lists
 moved w s i r l = entered w s i r (forgotten (i .0) l)
@@ -56,20 +51,6 @@ moved w s i r l = entered w s i r (forgotten (i .0) l)
 unfoldable pub lastFrom : ℕ → List ℕ → AllocIndex → AllocIndex
 lastFrom zero w i = i
 lastFrom (suc k) w i = pick (isNone (nodeAt w i .next)) i (lastFrom k w (nodeAt w i .next))
-
--- A rectangle stretched along an orientation by d, and the one appended to it.
-abbrev pub stretchedRect : Orientation → Rectangle → ℕ → Rectangle
-stretchedRect Vertical r d = record { x0 = r .x0; y0 = r .y0; x1 = r .x1; y1 = r .y1 + d }
-stretchedRect Horizontal r d = record { x0 = r .x0; y0 = r .y0; x1 = r .x1 + d; y1 = r .y1 }
-
-abbrev pub appendedRect : Orientation → Rectangle → ℕ → Rectangle
-appendedRect Vertical r d = record { x0 = r .x0; y0 = r .y1; x1 = r .x1; y1 = r .y1 + d }
-appendedRect Horizontal r d = record { x0 = r .x1; y0 = r .y0; x1 = r .x1 + d; y1 = r .y1 }
-
--- Across the old root's orientation, the strip past the old sheet, the new sheet's whole length.
-abbrev pub stripRect : Orientation → Size → Size → Rectangle
-stripRect Vertical old new = record { x0 = 0; y0 = natural (old .height); x1 = natural (new .width); y1 = natural (new .height) }
-stripRect Horizontal old new = record { x0 = natural (old .width); y0 = 0; x1 = natural (new .width); y1 = natural (new .height) }
 
 -- The setup by whose thresholds entries are made.
 abbrev pub ownSetup : State → Setup
@@ -119,7 +100,7 @@ grownBoth s old new =
     let o = nodeAt (s .words) (s .head .root) .orientation in
     let d = growth old new in
     let t = pick (ltb 0 (along o d)) (grownAlong s (along o d)) s in
-    pick (ltb 0 (along (flip o) d)) (grownAcross t (stripRect (flip o) old new)) t
+    pick (ltb 0 (along (flip o) d)) (grownAcross t (stripRect (flip o) (extentOf old) (extentOf new))) t
 
 -- The state after a grow to another size.
 unfoldable pub grown : State → Size → State

@@ -1,8 +1,8 @@
--- `stretches::appended_rect` meets its contract: each answer is that of the orientation that was matched.
+-- `strips::stretched_rect` meets its contract: each answer is that of the orientation that was matched.
 -- Assumes nothing.
 use borrow.Author.Needs.{needs}
-use Rattle.stretches.proofs.appended_rect.Statement.{statement}
-use Rattle.stretches.proofs.appended_rect.Tie as tie
+use Rattle.strips.proofs.stretched_rect.Statement.{statement}
+use Rattle.strips.proofs.stretched_rect.Tie as tie
 
 enum-told : tie.Need-enum-told
 enum-told c = search needs
@@ -22,5 +22,5 @@ returns c = rw (c .before .enum-told .given .1)
 returns-2 : tie.Need-returns-2
 returns-2 c = rw (c .before .enum-told2 .given .1)
 
-pub appended-rect-spec : {M : Type 1} → statement M
-appended-rect-spec = tie.close (tie.spec enum-told add-t5 enum-told-2 add-t6 returns returns-2)
+pub stretched-rect-spec : {M : Type 1} → statement M
+stretched-rect-spec = tie.close (tie.spec enum-told add-t5 enum-told-2 add-t6 returns returns-2)
