@@ -20,7 +20,6 @@ use Rattle.slots.specs.declared.AllocIndex.{AllocIndex}
 use Rattle.slots.specs.declared.Node.{Node}
 use Rattle.slots.specs.declared.NodeKind.the-variants.{Container, Free}
 use Rattle.lists.specs.Lists.{freeEntry}
-use Rattle.buckets.specs.FreeLists.{Lists, forgotten}
 use Rattle.steps.specs.Spares.{newNode}
 use Rattle.steps.specs.State.{State, state, listsOf}
 use Rattle.steps.specs.declared.Head.{Head}
@@ -28,6 +27,7 @@ use Rattle.sound.specs.Sound.{sheetOf}
 use Rattle.strips.specs.Strips.{along, stretchedRect, appendedRect, stripRect}
 use Rattle.lone.specs.Lone.{loneFree}
 use Rattle.entries.specs.Entries.{entered}
+use Rattle.moves.specs.Moves.{moved}
 use Rattle.grants.specs.Carves.{pairUnder}
 use Rattle.grants.specs.Grants.{withLists}
 
@@ -42,10 +42,6 @@ withRoot h i = record { sheet = h .sheet; options = h .options; root = i; spare 
 unfoldable pub growth : Size → Size → Extent
 growth old new =
     record { width = natural (new .width) - natural (old .width); height = natural (new .height) - natural (old .height) }
-
--- A moved entry: first occurrence, buckets small to large, swap-removed, then pushed.
-abbrev pub moved : List ℕ → Setup → AllocIndex → Rectangle → Lists → Lists
-moved w s i r l = entered w s i r (forgotten (i .0) l)
 
 -- The last slot of the chain from slot i, at most k links on.
 unfoldable pub lastFrom : ℕ → List ℕ → AllocIndex → AllocIndex

@@ -1,9 +1,9 @@
--- `stretches::move_entry` meets its contract: the first occurrence is taken out, and the entry is pushed.
+-- `moves::move_entry` meets its contract: the first occurrence is taken out, and the entry is pushed.
 -- Assumes nothing.
-use Rattle.stretches.specs.ChainLaws.{ready-within, forgotten-enterable}
+use Rattle.moves.specs.MoveLaws.{ready-within, forgotten-enterable}
 use borrow.Author.Needs.{needs}
-use Rattle.stretches.proofs.move_entry.Statement.{statement}
-use Rattle.stretches.proofs.move_entry.Tie as tie
+use Rattle.moves.proofs.move_entry.Statement.{statement}
+use Rattle.moves.proofs.move_entry.Tie as tie
 
 forget-requires : tie.Need-forget-requires
 forget-requires c κs = ready-within _ _ (c .before .before .before .before .before .before .before .pre .0)
