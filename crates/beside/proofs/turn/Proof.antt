@@ -1,9 +1,9 @@
--- `carves::turn` meets its contract: two stores, one after the other.
+-- `beside::turn` meets its contract: two stores, one after the other.
 -- Assumes nothing.
 use Rattle.grants.specs.Carves.{turned}
 use borrow.Author.Needs.{needs}
-use Rattle.carves.proofs.turn.Statement.{statement}
-use Rattle.carves.proofs.turn.Tie as tie
+use Rattle.beside.proofs.turn.Statement.{statement}
+use Rattle.beside.proofs.turn.Tie as tie
 
 set-kind-requires : tie.Need-set-kind-requires
 set-kind-requires c κs = search needs

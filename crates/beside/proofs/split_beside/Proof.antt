@@ -1,10 +1,10 @@
--- `carves::split_beside` meets its contract: the new slot, the link to it, and the link back.
+-- `beside::split_beside` meets its contract: the new slot, the link to it, and the link back.
 -- Assumes nothing.
 use Rattle.grants.specs.Carves.{beside}
 use Rattle.pairs.specs.PairLaws.{link-stored}
 use borrow.Author.Needs.{needs}
-use Rattle.carves.proofs.split_beside.Statement.{statement}
-use Rattle.carves.proofs.split_beside.Tie as tie
+use Rattle.beside.proofs.split_beside.Statement.{statement}
+use Rattle.beside.proofs.split_beside.Tie as tie
 
 node-at-requires : tie.Need-node-at-requires
 node-at-requires c κs = search needs
