@@ -22,7 +22,8 @@ use Rattle.forest.specs.Fill.{join-not-empty}
 use Rattle.granted.specs.NewSlots.{start-taking, has-spare}
 use Rattle.granted.specs.SoundFacts.{lent-slots, lists-ready}
 use Rattle.granted.specs.Terms.{spareAt}
-use Rattle.grows.specs.Grows.{stretchedRect, appendedRect, stretched, appendedTo, grownAlong}
+use Rattle.strips.specs.Strips.{stretchedRect, appendedRect}
+use Rattle.grows.specs.Grows.{stretched, appendedTo, grownAlong}
 use Rattle.grown.specs.Both.{runsAt, lastAt, along-steps}
 use Rattle.grown.specs.Chains.{OnTop, last-on-top}
 use Rattle.grown.specs.Filled.{last-some}

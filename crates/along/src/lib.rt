@@ -28,9 +28,9 @@ pub fn grow_along(
     let rect = last.rect;
     let kind = last.kind;
     if slots::same_kind(kind, NodeKind::Free) {
-        let longer = stretches::stretched_rect(o, rect, by);
+        let longer = strips::stretched_rect(o, rect, by);
         return growing::stretch(words, small, medium, large, head, i, longer);
     }
-    let new = stretches::appended_rect(o, rect, by);
+    let new = strips::appended_rect(o, rect, by);
     growing::append_to(words, generations, small, medium, large, head, i, o, new)
 }

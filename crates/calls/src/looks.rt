@@ -1,6 +1,6 @@
 // What is read off the state that the list tells of: our "is it empty", held against the list.
+use empty::Emptiness;
 use steps::Head;
-use views::Emptiness;
 
 fn emptiness(
     words: &[u32; 2048],
@@ -10,7 +10,7 @@ fn emptiness(
     large: &[u32; 2048],
     head: Head,
 ) -> Emptiness {
-    views::is_empty(words, generations, small, medium, large, head)
+    empty::is_empty(words, generations, small, medium, large, head)
 }
 
 // 9 empty: whether the tables are sound, and the sheet is empty just where the line says so.

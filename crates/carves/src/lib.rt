@@ -5,15 +5,13 @@ use geometry::Rectangle;
 use grants::CutSlots;
 use grants::Shape;
 use slots::AllocIndex;
-use slots::Node;
 use slots::NodeKind;
 use steps::Head;
 use steps::Taken;
 ghost use mathlib.Core.Path.{_≡_};
-ghost use Rattle.table.specs.Table.{nodeAt, HasSlot};
 ghost use Rattle.grants.specs.Shapes.{slotsNeeded};
-ghost use Rattle.grants.specs.Carves.{news, newsOf, turned, beside, carved};
-ghost use Rattle.pairs.specs.Pairs.{CanTake, LinkHas};
+ghost use Rattle.grants.specs.Carves.{news, newsOf, carved};
+ghost use Rattle.pairs.specs.Pairs.{CanTake};
 ghost use Rattle.carves.specs.Room.{Carvable};
 
 // The slots of a cut, and the head after they were taken.
@@ -121,37 +119,6 @@ pub fn take_slots(
     }
 }
 
-// The chosen slot turns Alloc, with the request's rectangle.
-fn turn(words: &mut [u32], i: AllocIndex, rect: Rectangle)
-    requires { ⌜ HasSlot (now words) i ⌝ }
-    ensures { λ _. ⌜ now (words .exit) ≡ turned (now (words .entry)) i rect ⌝ }
-{
-    table::set_kind(words, i, NodeKind::Alloc);
-    table::set_rect(words, i, rect);
-}
-
-// Split becomes the chosen slot's next sibling.
-fn split_beside(words: &mut [u32], i: AllocIndex, s: AllocIndex, rect: Rectangle)
-    requires { ⌜ HasSlot (now words) i × HasSlot (now words) s × LinkHas (now words) (nodeAt (now words) i .next) ⌝ }
-    ensures { λ _. ⌜ now (words .exit) ≡ beside (now (words .entry)) i s rect ⌝ }
-{
-    let node = table::node_at(words, i);
-    let parent = node.parent;
-    let next = node.next;
-    let o = node.orientation;
-    let split = Node {
-        parent: parent,
-        next: next,
-        prev: i,
-        kind: NodeKind::Free,
-        orientation: o,
-        rect: rect,
-    };
-    table::put_node(words, s, split);
-    table::set_next(words, i, s);
-    pairs::answer_link(words, next, s);
-}
-
 // Writes the slots of a cut: slot i is chosen, and the request lies at rect.
 pub fn carve(
     shape: Shape,
@@ -175,14 +142,14 @@ pub fn carve(
     let left = cut.leftover;
     match shape {
         Shape::Exact => {
-            turn(words, i, rect);
+            beside::turn(words, i, rect);
         }
         Shape::Along => {
-            split_beside(words, i, s, split);
-            turn(words, i, rect);
+            beside::split_beside(words, i, s, split);
+            beside::turn(words, i, rect);
         }
         Shape::AlongLeft => {
-            split_beside(words, i, s, split);
+            beside::split_beside(words, i, s, split);
             table::set_kind(words, i, NodeKind::Container);
             pairs::put_pair(
                 words,

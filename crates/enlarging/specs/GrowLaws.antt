@@ -9,7 +9,7 @@ use borrow.Author.Tests.{lt-ltb, le-ltb}
 use Rattle.geometry.specs.Choice.{pick}
 use Rattle.geometry.specs.Rectangles.{flip}
 use Rattle.geometry.specs.SideLaws.{sheet-side}
-use Rattle.geometry.specs.Sides.{natural, validSetup, setupOf}
+use Rattle.geometry.specs.Sides.{natural, extentOf, validSetup, setupOf}
 use Rattle.geometry.specs.TestLaws.{and-true-each}
 use Rattle.geometry.specs.declared.AllocatorOptions.{AllocatorOptions}
 use Rattle.geometry.specs.declared.Orientation.{Orientation}
@@ -17,23 +17,24 @@ use Rattle.geometry.specs.declared.Orientation.the-variants.{Vertical, Horizont
 use Rattle.geometry.specs.declared.Rectangle.{Rectangle}
 use Rattle.geometry.specs.declared.Setup.{Setup}
 use Rattle.geometry.specs.declared.Size.{Size}
-use Rattle.slots.specs.Slots.{isNone, sameKind}
 use Rattle.slots.specs.declared.Node.{Node}
-use Rattle.slots.specs.declared.NodeKind.the-variants.{Free}
 use Rattle.table.specs.Table.{nodeAt, HasSlot}
 use Rattle.lists.specs.Lists.{freeEntry}
 use Rattle.steps.specs.State.{State, state, listsOf}
 use Rattle.sound.specs.View.{seen}
 use Rattle.sound.specs.Sound.{Sound, sheetOf}
 use Rattle.links.specs.TestLaws.{fails}
+use Rattle.lone.specs.Lone.{loneFree}
+use Rattle.lone.specs.LoneLaws.{lone-says}
 use Rattle.lent.specs.Lent.{LentOf}
 use Rattle.granted.specs.SoundFacts.{lists-ready}
 use Rattle.granted.specs.Terms.{spareAt}
-use Rattle.grows.specs.Grows.{withSheet, growth, along, stretchedRect, stripRect, stretched, isLone, grownAlong, grownBoth, grown, growSlots}
+use Rattle.strips.specs.Strips.{along, stretchedRect, stripRect}
+use Rattle.grows.specs.Grows.{withSheet, growth, stretched, grownAlong, grownBoth, grown, growSlots}
 use Rattle.grown.specs.Both.{runsAt, lastAt, needsAlong, needsAcross, Reaches, between}
 use Rattle.grown.specs.Fills.{Fills}
 use Rattle.grown.specs.Terms.{GrowDue}
-use Rattle.grown.specs.Whole.{lone-says, begins}
+use Rattle.grown.specs.Whole.{begins}
 use Rattle.growing.specs.Ready.{StepReady}
 use Rattle.growing.specs.TopLaws.{root-has}
 use Rattle.along.specs.Ready.{AlongReady}
@@ -58,7 +59,8 @@ growth-fits Horizontal old new w h = omega arith
 
 -- The strip has its corners in order.
 strip-upright : (o : Orientation) (old new : Size) → natural (old .width) ≤ natural (new .width) → natural (old .height) ≤ natural (new .height)
-    → (stripRect o old new .x0 ≤ stripRect o old new .x1) × (stripRect o old new .y0 ≤ stripRect o old new .y1)
+    → (stripRect o (extentOf old) (extentOf new) .x0 ≤ stripRect o (extentOf old) (extentOf new) .x1)
+    × (stripRect o (extentOf old) (extentOf new) .y0 ≤ stripRect o (extentOf old) (extentOf new) .y1)
 strip-upright Vertical old new w h = (omega arith, h)
 strip-upright Horizontal old new w h = (w, omega arith)
 
@@ -129,11 +131,7 @@ module _ {s : State} {new : Size} (L : LentOf s) (S : Sound s) (G : GrowDue s ne
   pub whole-root : HasSlot (s .words) (s .head .root)
   whole-root = root-has s L (S .rule1 .fits) (S .rule3)
 
-  module _ {m : Node} {b : Bool} (node : m ≡ nodeAt (s .words) (s .head .root)) (test : b ≡ (sameKind (m .kind) Free && isNone (m .next))) where
-    tested : b ≡ isLone s
-    unfolding isLone
-    tested = rw (test, node)
-
+  module _ {b : Bool} (test : b ≡ loneFree (s .words) (s .head .root)) where
     -- A single Free root is stretched over the new sheet,
     pub lone-ready : {q : Setup} → q ≡ setupOf new (s .head .options)
         → StepReady (s .words) (listsOf s) (s .head .root) (record { x0 = 0; y0 = 0; x1 = q .sheet .width; y1 = q .sheet .height })
@@ -145,17 +143,17 @@ module _ {s : State} {new : Size} (L : LentOf s) (S : Sound s) (G : GrowDue s ne
         (record { x0 = 0; y0 = 0; x1 = q .sheet .width; y1 = q .sheet .height })
         → t ≡ grown s new
     unfolding grown setupOf
-    lone-done is e w = rw (w, e, sym tested ∙ is)
+    lone-done is e w = rw (w, e, sym test ∙ is)
 
     -- and otherwise the two steps are taken.
     pub both-ready : b ≡ false → BothReady (state (withSheet (s .head) new) (s .words) (s .generations) (s .small) (s .medium) (s .large)) (s .head .sheet)
     unfolding growSlots seen
     both-ready not =
-        let e : isLone s ≡ false = sym tested ∙ not in
+        let e : loneFree (s .words) (s .head .root) ≡ false = sym test ∙ not in
         record {
           lent = L;
           fills = begins s new L S G;
-          lone = fails (lone-says s) e;
+          lone = fails (lone-says (s .words) (s .head .root)) e;
           wide = G .wide;
           tall = G .tall;
           enough = rw e at (G .enough);
@@ -164,4 +162,4 @@ module _ {s : State} {new : Size} (L : LentOf s) (S : Sound s) (G : GrowDue s ne
     pub both-grows : {t : State} → b ≡ false
         → t ≡ grownBoth (state (withSheet (s .head) new) (s .words) (s .generations) (s .small) (s .medium) (s .large)) (s .head .sheet) new → t ≡ grown s new
     unfolding grown
-    both-grows not w = rw (w, sym tested ∙ not)
+    both-grows not w = rw (w, sym test ∙ not)

@@ -108,8 +108,7 @@ pub fn grow_sheet(
     let sheet = setup.sheet;
     let mut after = head;
     after.sheet = new;
-    let node = table::node_at(words, root);
-    if stretches::is_lone(node) {
+    if lone::is_lone(words, root) {
         let whole = Rectangle {
             x0: 0,
             y0: 0,

@@ -14,7 +14,8 @@ ghost use Rattle.deallocate.specs.Deallocate.{DeallocateCall};
 ghost use Rattle.grow.specs.Grow.{GrowCall};
 ghost use Rattle.lookup.specs.Lookup.{IndexCall};
 ghost use Rattle.listings.specs.Listings.{filled};
-ghost use Rattle.views.specs.Views.{ListCall, EmptyCall};
+ghost use Rattle.views.specs.Views.{ListCall};
+ghost use Rattle.empty.specs.Empty.{EmptyCall};
 ghost use Rattle.ferrunchju.specs.Tables.{stateAt, cropAt};
 
 // A new sheet, whatever the tables held: 0, 1 or 3.
@@ -290,7 +291,7 @@ pub extern "C" fn ferrunchju_is_empty(
         × EmptyCall (stateAt (now (head .entry)) (now (words .entry)) (now (generations .entry)) (now (small .entry)) (now (medium .entry)) (now (large .entry))) (given r (eqb (now (empty .exit)) 1) (stateAt (now (head .exit)) (now (words .exit)) (now (generations .exit)) (now (small .exit)) (now (medium .exit)) (now (large .exit)))) ⌝ }
 {
     let before = heads::head_of(head);
-    let seen = views::is_empty(words, generations, small, medium, large, before);
+    let seen = empty::is_empty(words, generations, small, medium, large, before);
     *empty = heads::flag_of(seen.empty);
     seen.answer
 }

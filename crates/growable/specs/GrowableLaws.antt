@@ -15,7 +15,7 @@ use Rattle.geometry.specs.declared.Extent.{Extent}
 use Rattle.geometry.specs.declared.Setup.{Setup}
 use Rattle.geometry.specs.declared.Size.{Size}
 use Rattle.table.specs.Table.{nodeAt}
-use Rattle.slots.specs.Slots.{isNone, sameKind}
+use Rattle.slots.specs.Slots.{sameKind}
 use Rattle.slots.specs.declared.AllocIndex.{AllocIndex}
 use Rattle.slots.specs.declared.Node.{Node}
 use Rattle.slots.specs.declared.NodeKind.the-variants.{Free}
@@ -23,10 +23,11 @@ use Rattle.lists.specs.Lists.{freeEntry}
 use Rattle.steps.specs.State.{State}
 use Rattle.steps.specs.declared.Head.{Head}
 use Rattle.sound.specs.Sound.{Sound}
+use Rattle.lone.specs.Lone.{loneFree}
 use Rattle.lent.specs.Lent.{LentOf}
 use Rattle.granted.specs.SoundFacts.{lent-slots, live-has-slot}
 use Rattle.granted.specs.Terms.{spareAt}
-use Rattle.grows.specs.Grows.{lastFrom, isLone, growSlots}
+use Rattle.grows.specs.Grows.{lastFrom, growSlots}
 use Rattle.grows.specs.Refusals.{isSmaller, growAnswer}
 use Rattle.grown.specs.Chains.{last-on-top}
 use Rattle.growing.specs.TopLaws.{top-has, top-some}
@@ -73,20 +74,17 @@ module _ (w : List ℕ) (h : Head) (grows : Bool) where
   along-most {k} e = rw e (pick-elim (λ (n : ℕ). n ≤ 1) (grows && not (freeEntry w (lastFrom (h .count) w (h .root) .0))) 1 0 (λ _. omega arith) (λ _. omega arith))
 
 -- none for a single Free root,
-module _ (s : State) (new : Size) {m : Node} {b : Bool} (node : m ≡ nodeAt (s .words) (s .head .root)) (lone : b ≡ (sameKind (m .kind) Free && isNone (m .next))) where
-  lone-as : b ≡ isLone s
-  unfolding isLone
-  lone-as = rw (← node) lone
-
+module _ (s : State) (new : Size) {b : Bool} (lone : b ≡ loneFree (s .words) (s .head .root)) where
   pub slots-lone : b ≡ true → 0 ≡ growSlots s new
   unfolding growSlots
-  slots-lone e = rw (sym lone-as ∙ e)
+  slots-lone e = rw (sym lone ∙ e)
 
   -- else those along, and 2 across.
-  module _ {k : ℕ} {f : Ways} (several : b ≡ false) (far : f ≡ waysOf (m .orientation) (s .head .sheet) new) (many : k ≡ slotsAlong (s .words) (s .head) (ltb 0 (f .along))) where
+  module _ {k : ℕ} {m : Node} {f : Ways} (several : b ≡ false) (node : m ≡ nodeAt (s .words) (s .head .root)) (far : f ≡ waysOf (m .orientation) (s .head .sheet) new)
+      (many : k ≡ slotsAlong (s .words) (s .head) (ltb 0 (f .along))) where
     slots-both : k + pick (ltb 0 (f .across)) 2 0 ≡ growSlots s new
     unfolding growSlots slotsAlong waysOf
-    slots-both = rw (many, far, node, sym lone-as ∙ several)
+    slots-both = rw (many, far, node, sym lone ∙ several)
 
     pub slots-across : 0 < f .across → k + 2 ≡ growSlots s new
     slots-across h = sym (ap (λ (x : Bool). k + pick x 2 0) (lt-ltb 0 (f .across) h)) ∙ slots-both

@@ -1,7 +1,7 @@
 -- THE NEW SLOTS THAT A GROW NEEDS, in the paper's words: none for a single Free root; else 1 to append along the root's orientation, and 2 across it.
 -- Assumes nothing.
 use mathlib.Core.Path.{_≡_}
-use mathlib.Core.Bool.{Bool, true, _&&_, not}
+use mathlib.Core.Bool.{Bool, _&&_, not}
 use Prim.Native.Nat.{ℕ, _+_, _-_, _<_}
 use native.Mathlib.Omega.{arith}
 use lib.Dec.{ltb}
@@ -13,16 +13,14 @@ use Rattle.geometry.specs.declared.Orientation.{Orientation}
 use Rattle.geometry.specs.declared.Orientation.the-variants.{Vertical, Horizontal}
 use Rattle.geometry.specs.declared.Size.{Size}
 use Rattle.table.specs.Table.{nodeAt}
-use Rattle.slots.specs.Slots.{isNone}
 use Rattle.slots.specs.declared.NodeKind.the-variants.{Free}
 use Rattle.lists.specs.Lists.{freeEntry}
 use Rattle.steps.specs.State.{State}
 use Rattle.links.specs.TestLaws.{Says, refuted, both-say, not-say, kind-says}
-use Rattle.grows.specs.Grows.{growth, along, lastFrom, isLone, growSlots}
-
--- A single Free root: the root is Free and has no next.
-abbrev pub Lone : State → Type 0
-Lone s = (nodeAt (s .words) (s .head .root) .kind ≡ Free) × (isNone (nodeAt (s .words) (s .head .root) .next) ≡ true)
+use Rattle.lone.specs.LoneLaws.{lone-says}
+use Rattle.strips.specs.Strips.{along}
+use Rattle.grows.specs.Grows.{growth, lastFrom, growSlots}
+use Rattle.grown.specs.Fills.{Lone}
 
 -- The root's orientation, and the one across it.
 abbrev pub rootWay : State → Orientation
@@ -44,10 +42,6 @@ left-says : (a b : ℕ) → Says (ltb 0 (b - a)) (a < b)
 left-says a b = (λ e. omega (arith, ltb-true 0 (b - a) e), λ h. lt-ltb 0 (b - a) (omega arith))
 
 module _ (s : State) (new : Size) where
-  lone-says : Says (isLone s) (Lone s)
-  unfolding isLone
-  lone-says = both-say (kind-says _ Free) (λ e. e, λ e. e)
-
   along-says : (o : Orientation) → Says (ltb 0 (along o (growth (s .head .sheet) new))) (GrowsAlong s new o)
   unfolding growth
   along-says Vertical = left-says (natural (s .head .sheet .height)) (natural (new .height))
@@ -60,13 +54,13 @@ module _ (s : State) (new : Size) where
   -- A single Free root needs none.
   pub lone-needs-none : Lone s → growSlots s new ≡ 0
   unfolding growSlots
-  lone-needs-none l = rw (lone-says .1 l)
+  lone-needs-none l = rw (lone-says (s .words) (s .head .root) .1 l)
 
   module _ (several : Lone s → ⊥) where
     needs : {p q : Bool} → (ltb 0 (along (rootWay s) (growth (s .head .sheet) new)) && not (freeEntry (s .words) (lastFrom (s .head .count) (s .words) (s .head .root) .0))) ≡ p
         → ltb 0 (along (crossWay s) (growth (s .head .sheet) new)) ≡ q → growSlots s new ≡ pick p 1 0 + pick q 2 0
     unfolding growSlots
-    needs e f = rw (refuted lone-says several, e, f)
+    needs e f = rw (refuted (lone-says (s .words) (s .head .root)) several, e, f)
 
     -- To append along takes 1, to stretch none;
     pub stretch-needs-none : (GrowsAlong s new (rootWay s) → EndsFree s) → (GrowsAlong s new (crossWay s) → ⊥) → growSlots s new ≡ 0

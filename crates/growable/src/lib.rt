@@ -46,10 +46,10 @@ pub fn grow_slots(words: &[u32], head: Head, new: Size) -> u32
     ensures { λ r. ⌜ ((g a b c : List ℕ) → r ≡ growSlots (state head (now (words .entry)) g a b c) new) ⌝ }
 {
     let root = head.root;
-    let node = table::node_at(words, root);
-    if stretches::is_lone(node) {
+    if lone::is_lone(words, root) {
         return 0;
     }
+    let node = table::node_at(words, root);
     let o = node.orientation;
     let far = ways::ways_of(o, head.sheet, new, head.options);
     let along = slots_along(words, head, far.along > 0);

@@ -21,7 +21,8 @@ use Rattle.entries.specs.Entries.{entered, ListsReady, Enterable}
 use Rattle.entries.specs.EntryLaws.{ready-enterable, ready-words}
 use Rattle.grants.specs.Grants.{withLists}
 use Rattle.granted.specs.Takes.{fresh-below}
-use Rattle.grows.specs.Grows.{moved, stretched, appendedTo}
+use Rattle.moves.specs.Moves.{moved}
+use Rattle.grows.specs.Grows.{stretched, appendedTo}
 use Rattle.grown.specs.Appending.{linkedAfter, length-linked}
 use Rattle.growing.specs.Ready.{StepReady}
 

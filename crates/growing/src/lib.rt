@@ -33,7 +33,7 @@ pub fn stretch(
     let setup = geometry::setup_of(head.sheet, head.options);
     let lengths = head.lengths;
     table::set_rect(words, i, rect);
-    let more = stretches::move_entry(words, small, medium, large, lengths, setup, i, rect);
+    let more = moves::move_entry(words, small, medium, large, lengths, setup, i, rect);
     let mut after = head;
     after.lengths = more;
     after

@@ -8,7 +8,7 @@ use lib.Dec.{ltb}
 use borrow.Author.Tests.{ltb-true, ltb-false}
 use Rattle.geometry.specs.Choice.{pick}
 use Rattle.geometry.specs.Rectangles.{flip}
-use Rattle.geometry.specs.Sides.{natural}
+use Rattle.geometry.specs.Sides.{natural, extentOf}
 use Rattle.geometry.specs.declared.Orientation.{Orientation}
 use Rattle.geometry.specs.declared.Rectangle.{Rectangle}
 use Rattle.geometry.specs.declared.Size.{Size}
@@ -22,7 +22,8 @@ use Rattle.sound.specs.Sound.{sheetOf}
 use Rattle.links.specs.TestLaws.{fails, kind-says}
 use Rattle.lent.specs.Lent.{LentOf}
 use Rattle.granted.specs.Terms.{spareAt}
-use Rattle.grows.specs.Grows.{growth, along, lastFrom, stretchedRect, appendedRect, stripRect, stretched, appendedTo, grownAlong, grownAcross, grownBoth}
+use Rattle.strips.specs.Strips.{along, stretchedRect, appendedRect, stripRect}
+use Rattle.grows.specs.Grows.{growth, lastFrom, stretched, appendedTo, grownAlong, grownAcross, grownBoth}
 use Rattle.grown.specs.Fills.{Fills, Carries, Lone, Roots, carries-same, carries-both}
 use Rattle.grown.specs.Chains.{OnTop, last-on-top}
 use Rattle.grown.specs.Filled.{whole-some, last-some}
@@ -87,7 +88,7 @@ module _ (s : State) (all : Rectangle) (L : LentOf s) (S : Fills s all) (lone : 
           let j = appended-join o r d in (
             z .0,
             record {
-              fills = rw (← w, ← j) (z .1);
+              fills = rw (← j, ← w) (z .1);
               carries = rw (← j) (z .2);
               roots = last-roots s all L S i (stretchedRect o r d) (found .0 .live) free (found .1) lone;
             },
@@ -124,12 +125,12 @@ module _ (s : State) (old new : Size) (L : LentOf s) (S : Fills s (sheetOf old))
   some = larger-some old new wide tall (whole-some (seen (s .words)) (s .head .count) (s .head .root .0) (S .rule3) (sheetOf old) (S .rule5))
 
   after : (m : State) (k : ℕ) → Reaches s m (stretchedRect o (sheetOf old) d) k → (b : Bool) → ltb 0 (along (flip o) (growth old new)) ≡ b → k + pick b 2 0 ≤ spareAt s
-      → Fills (pick b (grownAcross m (stripRect (flip o) old new)) m) (sheetOf new) × Carries s (pick b (grownAcross m (stripRect (flip o) old new)) m) (k + pick b 2 0)
+      → Fills (pick b (grownAcross m (stripRect (flip o) (extentOf old) (extentOf new))) m) (sheetOf new) × Carries s (pick b (grownAcross m (stripRect (flip o) (extentOf old) (extentOf new))) m) (k + pick b 2 0)
   after m k R true e h =
       let c = R .carries .spares in
-      let z = cross-steps m (stretchedRect o (sheetOf old) d) (R .carries .lent) (R .fills) (stripRect (flip o) old new) (R .roots .lone)
+      let z = cross-steps m (stretchedRect o (sheetOf old) d) (R .carries .lent) (R .fills) (stripRect (flip o) (extentOf old) (extentOf new)) (R .roots .lone)
       (strip-some old new wide tall o some (ltb-true 0 (along (flip o) (growth old new)) e)) (rw (R .roots .orientation) (strip-adjoins old new wide tall o)) (omega arith) in
-      (rw (← strip-joins old new wide tall o) (z .0), carries-both (R .carries) (z .1))
+      (rw (strip-joins old new wide tall o) at (z .0), carries-both (R .carries) (z .1))
   after m k R false e h =
       let z : along (flip o) (growth old new) ≡ 0 = omega (arith, ltb-false 0 (along (flip o) (growth old new)) e) in
       (rw (← along-alone old new wide tall o z) (R .fills), carries-both (R .carries) (carries-same (R .carries .lent)))

@@ -5,14 +5,15 @@ use mathlib.Core.Path.{_≡_, refl}
 use native.Mathlib.Nat.{add-zero}
 use native.Mathlib.Omega.{arith}
 use Rattle.geometry.specs.Rectangles.{flip}
-use Rattle.geometry.specs.Sides.{natural}
+use Rattle.geometry.specs.Sides.{natural, extentOf}
 use Rattle.geometry.specs.declared.Orientation.{Orientation}
 use Rattle.geometry.specs.declared.Orientation.the-variants.{Vertical, Horizontal}
 use Rattle.geometry.specs.declared.Rectangle.{Rectangle}
 use Rattle.geometry.specs.declared.Size.{Size}
 use Rattle.sound.specs.Rules.{NotEmpty, Adjoin, join}
 use Rattle.sound.specs.Sound.{sheetOf}
-use Rattle.grows.specs.Grows.{growth, along, stretchedRect, appendedRect, stripRect}
+use Rattle.strips.specs.Strips.{along, stretchedRect, appendedRect, stripRect}
+use Rattle.grows.specs.Grows.{growth}
 
 -- ALONG
 
@@ -50,17 +51,17 @@ module _ (old new : Size) (wide : natural (old .width) ≤ natural (new .width))
   larger-some h = (omega arith, omega arith)
 
   -- The strip adjoins the sheet as it is after the growth along, and with it makes the new sheet.
-  pub strip-adjoins : (o : Orientation) → Adjoin (flip o) (stretchedRect o (sheetOf old) (along o (growth old new))) (stripRect (flip o) old new)
+  pub strip-adjoins : (o : Orientation) → Adjoin (flip o) (stretchedRect o (sheetOf old) (along o (growth old new))) (stripRect (flip o) (extentOf old) (extentOf new))
   unfolding growth
   strip-adjoins Vertical = (refl, refl, back (natural (old .height)) (natural (new .height)) tall)
   strip-adjoins Horizontal = (refl, refl, back (natural (old .width)) (natural (new .width)) wide)
 
-  pub strip-joins : (o : Orientation) → join (stretchedRect o (sheetOf old) (along o (growth old new))) (stripRect (flip o) old new) ≡ sheetOf new
+  pub strip-joins : (o : Orientation) → join (stretchedRect o (sheetOf old) (along o (growth old new))) (stripRect (flip o) (extentOf old) (extentOf new)) ≡ sheetOf new
   unfolding growth
   strip-joins Vertical = refl
   strip-joins Horizontal = refl
 
-  pub strip-some : (o : Orientation) → NotEmpty (sheetOf new) → 0 < along (flip o) (growth old new) → NotEmpty (stripRect (flip o) old new)
+  pub strip-some : (o : Orientation) → NotEmpty (sheetOf new) → 0 < along (flip o) (growth old new) → NotEmpty (stripRect (flip o) (extentOf old) (extentOf new))
   unfolding growth
   strip-some Vertical h z = (omega arith, h .1)
   strip-some Horizontal h z = (h .0, omega arith)

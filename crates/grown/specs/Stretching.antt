@@ -25,7 +25,8 @@ use Rattle.granted.specs.SoundFacts.{setupAt, lent-few, lent-slots, lent-room}
 use Rattle.granted.specs.Stocked.{Stocked, listed-stocked, push-stocks}
 use Rattle.granted.specs.Carved.{piece}
 use Rattle.granted.specs.Writes.{seen-same, seen-other}
-use Rattle.grows.specs.Grows.{stretched, moved}
+use Rattle.moves.specs.Moves.{moved}
+use Rattle.grows.specs.Grows.{stretched}
 use Rattle.grown.specs.Fills.{Fills, Carries, Lone, Roots}
 use Rattle.grown.specs.Changed.{not-alloc, Change, change-fills, change-carries}
 use Rattle.grown.specs.Restock.{forget-stocks}

@@ -6,28 +6,22 @@ use mathlib.Core.Bool.{Bool, true, false}
 use Rattle.geometry.specs.Choice.{pick}
 use Rattle.geometry.specs.Sides.{setupOf}
 use Rattle.geometry.specs.declared.Size.{Size}
-use Rattle.slots.specs.declared.NodeKind.the-variants.{Free}
-use Rattle.table.specs.Table.{nodeAt}
 use Rattle.steps.specs.State.{State, state}
 use Rattle.sound.specs.View.{seen}
 use Rattle.sound.specs.Rules.{NotEmpty}
 use Rattle.sound.specs.Sound.{Sound, sheetOf}
-use Rattle.links.specs.LinkLaws.{link-none}
-use Rattle.links.specs.TestLaws.{Says, fails, both-say, kind-says}
+use Rattle.links.specs.TestLaws.{fails}
+use Rattle.lone.specs.Lone.{loneFree}
+use Rattle.lone.specs.LoneLaws.{lone-says}
 use Rattle.lent.specs.Lent.{LentOf}
 use Rattle.granted.specs.Terms.{spareAt}
-use Rattle.grows.specs.Grows.{withSheet, isLone, stretched, grownBoth, grown, growSlots}
+use Rattle.grows.specs.Grows.{withSheet, stretched, grownBoth, grown, growSlots}
 use Rattle.grown.specs.Fills.{Fills, Carries, Lone}
 use Rattle.grown.specs.Filled.{whole-some}
 use Rattle.grown.specs.Growths.{larger-some}
 use Rattle.grown.specs.Stretching.{lone-steps}
 use Rattle.grown.specs.Both.{needsAlong, needsAcross, both-steps}
 use Rattle.grown.specs.Terms.{GrowDue}
-
--- The test of a single Free root.
-pub lone-says : (s : State) → Says (isLone s) (Lone s)
-unfolding isLone seen
-lone-says s = both-say (kind-says (nodeAt (s .words) (s .head .root) .kind) Free) (link-none (nodeAt (s .words) (s .head .root) .next))
 
 module _ (s : State) (new : Size) (L : LentOf s) (S : Sound s) (G : GrowDue s new) where
   -- The state with the new sheet: its top chain still fills the old one.
@@ -61,12 +55,12 @@ module _ (s : State) (new : Size) (L : LentOf s) (S : Sound s) (G : GrowDue s ne
   -- The new sheet is filled, and as many slots are taken as counted.
   pub grown-steps : Fills (grown s new) (sheetOf new) × Carries t (grown s new) (growSlots s new)
   unfolding grown growSlots seen
-  grown-steps = go (isLone s) refl (G .enough)
+  grown-steps = go (loneFree (s .words) (s .head .root)) refl (G .enough)
     where
-      go : (b : Bool) → isLone s ≡ b
+      go : (b : Bool) → loneFree (s .words) (s .head .root) ≡ b
           → pick b 0 (needsAlong t (s .head .sheet) new + needsAcross t (s .head .sheet) new) ≤ spareAt s
           → Fills (pick b (stretched t (s .head .root) (sheetOf new)) (grownBoth t (s .head .sheet) new)) (sheetOf new)
           × Carries t (pick b (stretched t (s .head .root) (sheetOf new)) (grownBoth t (s .head .sheet) new))
           (pick b 0 (needsAlong t (s .head .sheet) new + needsAcross t (s .head .sheet) new))
-      go true e h = let z = lone-says s .0 e in lone-steps t (sheetOf (s .head .sheet)) L begins (sheetOf new) some (z .0) (z .1)
-      go false e h = both-steps t (s .head .sheet) new L begins (fails (lone-says s) e) (G .wide) (G .tall) h
+      go true e h = let z = lone-says (s .words) (s .head .root) .0 e in lone-steps t (sheetOf (s .head .sheet)) L begins (sheetOf new) some (z .0) (z .1)
+      go false e h = both-steps t (s .head .sheet) new L begins (fails (lone-says (s .words) (s .head .root)) e) (G .wide) (G .tall) h

@@ -1,16 +1,15 @@
 -- GROW on sound tables: a single Free root stretches. Otherwise along the root's orientation stretch the last slot or append (1 slot);
 -- across it take a Free slot, then a new zero-rectangle root (2 slots).
 -- Assumes nothing.
-use mathlib.Core.Bool.{Bool, _&&_, not}
+use mathlib.Core.Bool.{_&&_, not}
 use mathlib.Core.List.{List}
 use Prim.Native.Nat.{ℕ, zero, suc, _+_, _-_}
 use lib.Dec.{ltb}
 use Rattle.geometry.specs.Choice.{pick}
 use Rattle.geometry.specs.Rectangles.{flip, noRect}
-use Rattle.geometry.specs.Sides.{natural, setupOf}
+use Rattle.geometry.specs.Sides.{natural, extentOf, setupOf}
 use Rattle.geometry.specs.declared.Extent.{Extent}
 use Rattle.geometry.specs.declared.Orientation.{Orientation}
-use Rattle.geometry.specs.declared.Orientation.the-variants.{Vertical, Horizontal}
 use Rattle.geometry.specs.declared.Rectangle.{Rectangle}
 use Rattle.geometry.specs.declared.Setup.{Setup}
 use Rattle.geometry.specs.declared.Size.{Size}
@@ -21,12 +20,14 @@ use Rattle.slots.specs.declared.AllocIndex.{AllocIndex}
 use Rattle.slots.specs.declared.Node.{Node}
 use Rattle.slots.specs.declared.NodeKind.the-variants.{Container, Free}
 use Rattle.lists.specs.Lists.{freeEntry}
-use Rattle.buckets.specs.FreeLists.{Lists, forgotten}
 use Rattle.steps.specs.Spares.{newNode}
 use Rattle.steps.specs.State.{State, state, listsOf}
 use Rattle.steps.specs.declared.Head.{Head}
 use Rattle.sound.specs.Sound.{sheetOf}
+use Rattle.strips.specs.Strips.{along, stretchedRect, appendedRect, stripRect}
+use Rattle.lone.specs.Lone.{loneFree}
 use Rattle.entries.specs.Entries.{entered}
+use Rattle.moves.specs.Moves.{moved}
 use Rattle.grants.specs.Carves.{pairUnder}
 use Rattle.grants.specs.Grants.{withLists}
 
@@ -42,33 +43,10 @@ unfoldable pub growth : Size → Size → Extent
 growth old new =
     record { width = natural (new .width) - natural (old .width); height = natural (new .height) - natural (old .height) }
 
--- By how much it grows along an orientation: Vertical runs down y, Horizontal along x.
-abbrev pub along : Orientation → Extent → ℕ
-along Vertical d = d .height
-along Horizontal d = d .width
-
--- A moved entry: first occurrence, buckets small to large, swap-removed, then pushed.
-abbrev pub moved : List ℕ → Setup → AllocIndex → Rectangle → Lists → Lists
-moved w s i r l = entered w s i r (forgotten (i .0) l)
-
 -- The last slot of the chain from slot i, at most k links on.
 unfoldable pub lastFrom : ℕ → List ℕ → AllocIndex → AllocIndex
 lastFrom zero w i = i
 lastFrom (suc k) w i = pick (isNone (nodeAt w i .next)) i (lastFrom k w (nodeAt w i .next))
-
--- A rectangle stretched along an orientation by d, and the one appended to it.
-abbrev pub stretchedRect : Orientation → Rectangle → ℕ → Rectangle
-stretchedRect Vertical r d = record { x0 = r .x0; y0 = r .y0; x1 = r .x1; y1 = r .y1 + d }
-stretchedRect Horizontal r d = record { x0 = r .x0; y0 = r .y0; x1 = r .x1 + d; y1 = r .y1 }
-
-abbrev pub appendedRect : Orientation → Rectangle → ℕ → Rectangle
-appendedRect Vertical r d = record { x0 = r .x0; y0 = r .y1; x1 = r .x1; y1 = r .y1 + d }
-appendedRect Horizontal r d = record { x0 = r .x1; y0 = r .y0; x1 = r .x1 + d; y1 = r .y1 }
-
--- Across the old root's orientation, the strip past the old sheet, the new sheet's whole length.
-abbrev pub stripRect : Orientation → Size → Size → Rectangle
-stripRect Vertical old new = record { x0 = 0; y0 = natural (old .height); x1 = natural (new .width); y1 = natural (new .height) }
-stripRect Horizontal old new = record { x0 = natural (old .width); y0 = 0; x1 = natural (new .width); y1 = natural (new .height) }
 
 -- The setup by whose thresholds entries are made.
 abbrev pub ownSetup : State → Setup
@@ -112,23 +90,19 @@ grownAcross s r =
     let w = reparented (s .head .count) (pairUnder (s .words) none (flip o) (t .taken) Container noRect (f .taken) r) (t .taken) (s .head .root) in
     withLists (withRoot (t .head) (t .taken)) w (t .generations) (entered w (ownSetup s) (f .taken) r (listsOf s))
 
--- A single Free root.
-unfoldable pub isLone : State → Bool
-isLone s = freeEntry (s .words) (s .head .root .0) && isNone (nodeAt (s .words) (s .head .root) .next)
-
 -- Along, then across, each if the sheet grows that way.
 unfoldable pub grownBoth : State → Size → Size → State
 grownBoth s old new =
     let o = nodeAt (s .words) (s .head .root) .orientation in
     let d = growth old new in
     let t = pick (ltb 0 (along o d)) (grownAlong s (along o d)) s in
-    pick (ltb 0 (along (flip o) d)) (grownAcross t (stripRect (flip o) old new)) t
+    pick (ltb 0 (along (flip o) d)) (grownAcross t (stripRect (flip o) (extentOf old) (extentOf new))) t
 
 -- The state after a grow to another size.
 unfoldable pub grown : State → Size → State
 grown s new =
     let t = state (withSheet (s .head) new) (s .words) (s .generations) (s .small) (s .medium) (s .large) in
-    pick (isLone s) (stretched t (s .head .root) (sheetOf new)) (grownBoth t (s .head .sheet) new)
+    pick (loneFree (s .words) (s .head .root)) (stretched t (s .head .root) (sheetOf new)) (grownBoth t (s .head .sheet) new)
 
 -- New slots needed: none for a single Free root; else 1 to append and 2 across.
 unfoldable pub growSlots : State → Size → ℕ
@@ -136,4 +110,4 @@ growSlots s new =
     let o = nodeAt (s .words) (s .head .root) .orientation in
     let d = growth (s .head .sheet) new in
     let i = lastFrom (s .head .count) (s .words) (s .head .root) in
-    pick (isLone s) 0 (pick (ltb 0 (along o d) && not (freeEntry (s .words) (i .0))) 1 0 + pick (ltb 0 (along (flip o) d)) 2 0)
+    pick (loneFree (s .words) (s .head .root)) 0 (pick (ltb 0 (along o d) && not (freeEntry (s .words) (i .0))) 1 0 + pick (ltb 0 (along (flip o) d)) 2 0)

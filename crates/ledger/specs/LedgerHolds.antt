@@ -17,6 +17,7 @@ use Rattle.choices.specs.Choices.{scanBucket, searchOne}
 use Rattle.search.specs.Search.{searchUp, goneOn, findSuitable}
 use Rattle.steps.specs.Spares.{newNode, markedUnused, ofKind, countKind}
 use Rattle.lent.specs.Lent.{listLength, lentLengths}
+use Rattle.lone.specs.Lone.{loneFree}
 use Rattle.grants.specs.Carves.{newsOf, turned, answeredBy, beside, pairUnder, carved}
 use Rattle.grants.specs.Grants.{piecesEntered, taken, cutFor, grantOf, granted}
 use Rattle.grants.specs.Shapes.{shapeOf}
@@ -25,7 +26,7 @@ use Rattle.starts.specs.Starts.{startCall}
 use Rattle.allocate.specs.Allocate.{allocatedFor, allocated}
 use Rattle.frees.specs.Climbs.{absorbed, nextAbsorbed, absorbedByPrev, isOnlyChild, givenUp, climbed}
 use Rattle.frees.specs.Frees.{climbOf, released}
-use Rattle.grows.specs.Grows.{growth, lastFrom, stretched, appendedTo, grownAlong, reparented, grownAcross, isLone, grownBoth, grown, growSlots}
+use Rattle.grows.specs.Grows.{growth, lastFrom, stretched, appendedTo, grownAlong, reparented, grownAcross, grownBoth, grown, growSlots}
 use Rattle.grows.specs.Refusals.{isSmaller, growAnswer}
 use Rattle.live.specs.Live.{ticketAnswer}
 use Rattle.audit.specs.Answers.{afterCheck}
@@ -33,7 +34,7 @@ use Rattle.ledger.specs.Days.{inUseBelow}
 use Rattle.ledger.specs.Ledger.{Ledger}
 
 pub ledger-holds : Ledger
-unfolding reaches bucketOf emptyRect natural sheetSide validSetup setupOf roundUp rounded requestOf areaCompared exactFit cutWay cutOf kindOf orientationOf storedRect stored word setWord nodeAt firstOf pushed entryIn entryOf forgotten lesser better weighed look looking scanBucket searchOne searchUp goneOn findSuitable newNode markedUnused ofKind countKind listLength lentLengths newsOf turned answeredBy beside pairUnder carved piecesEntered taken cutFor grantOf granted shapeOf started startCall allocatedFor allocated absorbed nextAbsorbed absorbedByPrev isOnlyChild givenUp climbed climbOf released growth lastFrom stretched appendedTo grownAlong reparented grownAcross isLone grownBoth grown growSlots isSmaller growAnswer ticketAnswer afterCheck inUseBelow
+unfolding reaches bucketOf emptyRect natural sheetSide validSetup setupOf roundUp rounded requestOf areaCompared exactFit cutWay cutOf kindOf orientationOf storedRect stored word setWord nodeAt firstOf pushed entryIn entryOf forgotten lesser better weighed look looking scanBucket searchOne searchUp goneOn findSuitable newNode markedUnused ofKind countKind listLength lentLengths newsOf turned answeredBy beside pairUnder carved piecesEntered taken cutFor grantOf granted shapeOf started startCall allocatedFor allocated absorbed nextAbsorbed absorbedByPrev isOnlyChild givenUp climbed climbOf released growth lastFrom stretched appendedTo grownAlong reparented grownAcross loneFree grownBoth grown growSlots isSmaller growAnswer ticketAnswer afterCheck inUseBelow
 ledger-holds =
     record {
       first-is = (refl, refl, refl);

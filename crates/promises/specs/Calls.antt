@@ -15,7 +15,8 @@ use Rattle.starts.specs.Starts.{startCall, clearCall}
 use Rattle.outcomes.specs.Given.{nothing, given}
 use Rattle.lookup.specs.Lookup.{IndexCall}
 use Rattle.listings.specs.Listings.{Filled}
-use Rattle.views.specs.Views.{ListCall, EmptyCall}
+use Rattle.views.specs.Views.{ListCall}
+use Rattle.empty.specs.Empty.{EmptyCall}
 use Rattle.allocate.specs.Allocate.{Crop, AllocateCall}
 use Rattle.deallocate.specs.Deallocate.{DeallocateCall}
 use Rattle.grow.specs.Grow.{GrowCall}

@@ -23,8 +23,10 @@ use Rattle.audit.specs.AnswerLaws.{answers-once}
 use Rattle.lookup.specs.Lookup.{IndexCall}
 use Rattle.lookup.specs.LookupWhen.{index-refused}
 use Rattle.listings.specs.Listings.{Filled, filled}
-use Rattle.views.specs.Views.{ListCall, EmptyCall}
-use Rattle.views.specs.ViewsWhen.{listing-refused, empty-refused}
+use Rattle.views.specs.Views.{ListCall}
+use Rattle.views.specs.ViewsWhen.{listing-refused}
+use Rattle.empty.specs.Empty.{EmptyCall}
+use Rattle.empty.specs.EmptyWhen.{empty-refused}
 use Rattle.allocate.specs.Allocate.{Crop, noCrop, AllocateCall}
 use Rattle.allocate.specs.AllocateWhen.{Taken, asGrant, allocate-refusal-changes-nothing, allocate-refusal-changes-lists-alone}
 use Rattle.grants.specs.Grants.{noTicket}

@@ -23,8 +23,10 @@ use Rattle.audit.specs.AnswerLaws.{answers-sound}
 use Rattle.lookup.specs.Lookup.{lookup, IndexCall}
 use Rattle.lookup.specs.LookupWhen.{index-gives-1, index-gives-2, index-gives-8, index-gives-9, index-gives-10, index-gives-0}
 use Rattle.listings.specs.Listings.{Filled}
-use Rattle.views.specs.Views.{listing, ListCall, WholeFree, EmptyCall}
-use Rattle.views.specs.ViewsWhen.{listing-gives-1, listing-gives-2, listing-gives-12, listing-gives-0, empty-gives-1, empty-gives-2, empty-gives-0, empty-gives-yes}
+use Rattle.views.specs.Views.{listing, ListCall}
+use Rattle.views.specs.ViewsWhen.{listing-gives-1, listing-gives-2, listing-gives-12, listing-gives-0}
+use Rattle.empty.specs.Empty.{WholeFree, EmptyCall}
+use Rattle.empty.specs.EmptyWhen.{empty-gives-1, empty-gives-2, empty-gives-0, empty-gives-yes}
 use Rattle.allocate.specs.Allocate.{Crop, allocated, leaves, AllocateCall}
 use Rattle.allocate.specs.AllocateWhen.{allocate-gives-1, allocate-gives-2, allocate-gives-4, allocate-gives-5, allocate-gives-6, allocate-gives-7, allocate-gives-0}
 use Rattle.deallocate.specs.Deallocate.{deallocated, DeallocateCall}

@@ -27,7 +27,7 @@ use Rattle.cover.specs.Covered.{sheet-area, leaves-apart, point-has-one-slot}
 use Rattle.cover.specs.Sums.{allocMeasure, freeMeasure, sumSlots, LeafAt, rectAt, InRect}
 use Rattle.starts.specs.Starts.{startCall, clearCall}
 use Rattle.starts.specs.StartSound.{start-leaves-sound, start-keeps-lent, clear-leaves-sound}
-use Rattle.views.specs.ViewsWhen.{empty-changes-nothing}
+use Rattle.empty.specs.EmptyWhen.{empty-changes-nothing}
 use Rattle.outcomes.specs.Given.{Given}
 use Rattle.grants.specs.Grants.{Grant}
 use Rattle.granted.specs.Terms.{Roomy, Refuses, GivesOut}

@@ -1,4 +1,4 @@
--- The laws by which a chain is followed: the last slot and the new parents, a link at a time. Lists stay ready where an entry is taken out.
+-- The laws by which a chain is followed: the last slot and the new parents, a link at a time.
 -- Assumes nothing.
 use mathlib.Core.Path.{_≡_, refl, ap, _∙_}
 use mathlib.Core.Bool.{true, false}
@@ -13,10 +13,6 @@ use Rattle.slots.specs.declared.Node.{Node}
 use Rattle.table.specs.Table.{nodeAt, HasSlot}
 use Rattle.table.specs.Stores.{stored, toParent}
 use Rattle.table.specs.TableLaws.{length-stored, has-stored, nodeAt-stored-same, nodeAt-stored-other}
-use Rattle.buckets.specs.FreeLists.{Lists, Within, forgotten}
-use Rattle.buckets.specs.ForgetLaws.{forgotten-elim}
-use Rattle.entries.specs.Entries.{ListsReady, Enterable}
-use Rattle.entries.specs.EntryLaws.{ready-enterable, ready-removed}
 use Rattle.grows.specs.Grows.{lastFrom, reparented}
 use Rattle.stretches.specs.Chains.{ChainHas}
 
@@ -117,13 +113,3 @@ pub parents-on : (k : ℕ) (w u : List ℕ) (p i : AllocIndex) (v : Node) (m : L
 parents-on k w u p i v m l h n e f t =
     rw (f, e)
     (parents-go k w p i h n ∙ t .0, chain-parent (k - 1) w i p (nodeAt w i .next) (chain-on k w i h n (t .1) .1), length-stored w i (toParent p) ∙ t .2)
-
--- THE LISTS are ready after an entry was taken out.
-pub ready-within : (w : List ℕ) (l : Lists) → ListsReady w l → Within l
-ready-within w l r b = r b .entries .within
-
-pub ready-forgotten : (w : List ℕ) (v : ℕ) (l m : Lists) → m ≡ forgotten v l → ListsReady w l → ListsReady w m
-ready-forgotten w v l m e r = rw e (forgotten-elim (ListsReady w) v l (λ _. r) (λ b k h _. ready-removed w b k l h r))
-
-pub forgotten-enterable : (w : List ℕ) (i : AllocIndex) (l m : Lists) → m ≡ forgotten (i .0) l → ListsReady w l → HasSlot w i → Enterable w (i .0) m
-forgotten-enterable w i l m e r h = ready-enterable w (i .0) m (ready-forgotten w (i .0) l m e r) h

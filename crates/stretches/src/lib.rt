@@ -1,36 +1,10 @@
-// Grow in the slot table: a single Free root, the last slot of a chain, another parent for a chain, the rectangles of a grow, and an entry that moves.
-use buckets::Lengths;
-use geometry::Extent;
-use geometry::Orientation;
-use geometry::Rectangle;
-use geometry::Setup;
+// Grow in the slot table: the last slot of a chain, and another parent for a chain.
 use slots::AllocIndex;
-use slots::Node;
-use slots::NodeKind;
 ghost use mathlib.Core.Path.{_≡_};
-ghost use mathlib.Core.Bool.{false, _&&_};
-ghost use Prim.Native.Nat.{_+_, _^_, _<_, _≤_};
-ghost use Rattle.geometry.specs.Sides.{extentOf};
-ghost use Rattle.geometry.specs.declared.Size.{Size};
-ghost use Rattle.slots.specs.Slots.{isNone, sameKind};
-ghost use Rattle.slots.specs.declared.NodeKind.the-variants.{Free};
-ghost use Rattle.table.specs.Table.{HasSlot};
-ghost use Rattle.buckets.specs.FreeLists.{lists};
-ghost use Rattle.entries.specs.Entries.{ListsReady};
-ghost use Rattle.grows.specs.Grows.{moved, lastFrom, reparented, stretchedRect, appendedRect, stripRect};
+ghost use mathlib.Core.Bool.{false};
+ghost use Rattle.slots.specs.Slots.{isNone};
+ghost use Rattle.grows.specs.Grows.{lastFrom, reparented};
 ghost use Rattle.stretches.specs.Chains.{ChainHas};
-
-// Whether a root is a single Free slot.
-pub fn is_lone(root: Node) -> bool
-    ensures { λ r. ⌜ r ≡ (sameKind (root .kind) Free && isNone (root .next)) ⌝ }
-{
-    let kind = root.kind;
-    let next = root.next;
-    if slots::same_kind(kind, NodeKind::Free) {
-        return slots::is_none(next);
-    }
-    false
-}
 
 // The last slot of the chain from slot i, at most n links on.
 pub fn last_of(words: &[u32], n: u32, i: AllocIndex) -> AllocIndex
@@ -67,85 +41,4 @@ pub fn reparent(words: &mut [u32], n: u32, p: AllocIndex, i: AllocIndex)
         at = node.next;
         rest -= 1;
     }
-}
-
-// A rectangle stretched along an orientation by a length,
-pub fn stretched_rect(o: Orientation, rect: Rectangle, by: u32) -> Rectangle
-    requires { ⌜ (rect .x1 + by < 2 ^ 32) × (rect .y1 + by < 2 ^ 32) ⌝ }
-    ensures { λ r. ⌜ r ≡ stretchedRect o rect by ⌝ }
-{
-    match o {
-        Orientation::Vertical => Rectangle {
-            x0: rect.x0,
-            y0: rect.y0,
-            x1: rect.x1,
-            y1: rect.y1 + by,
-        },
-        Orientation::Horizontal => Rectangle {
-            x0: rect.x0,
-            y0: rect.y0,
-            x1: rect.x1 + by,
-            y1: rect.y1,
-        },
-    }
-}
-
-// and the one appended to it.
-pub fn appended_rect(o: Orientation, rect: Rectangle, d: u32) -> Rectangle
-    requires { ⌜ (rect .x1 + d < 2 ^ 32) × (rect .y1 + d < 2 ^ 32) ⌝ }
-    ensures { λ r. ⌜ r ≡ appendedRect o rect d ⌝ }
-{
-    match o {
-        Orientation::Vertical => Rectangle {
-            x0: rect.x0,
-            y0: rect.y1,
-            x1: rect.x1,
-            y1: rect.y1 + d,
-        },
-        Orientation::Horizontal => Rectangle {
-            x0: rect.x1,
-            y0: rect.y0,
-            x1: rect.x1 + d,
-            y1: rect.y1,
-        },
-    }
-}
-
-// The strip past the old sheet along an orientation, the new sheet's whole length.
-pub fn strip_rect(o: Orientation, old: Extent, new: Extent) -> Rectangle
-    ensures { λ r. ⌜ ((a b : Size) → old ≡ extentOf a → new ≡ extentOf b → r ≡ stripRect o a b) ⌝ }
-{
-    match o {
-        Orientation::Vertical => Rectangle {
-            x0: 0,
-            y0: old.height,
-            x1: new.width,
-            y1: new.height,
-        },
-        Orientation::Horizontal => Rectangle {
-            x0: old.width,
-            y0: 0,
-            x1: new.width,
-            y1: new.height,
-        },
-    }
-}
-
-// Moves the entry of slot i: the first occurrence is taken out, and it is pushed by its new rectangle.
-pub fn move_entry(
-    words: &[u32],
-    small: &mut [u32],
-    medium: &mut [u32],
-    large: &mut [u32],
-    lengths: Lengths,
-    setup: Setup,
-    i: AllocIndex,
-    rect: Rectangle,
-) -> Lengths
-    requires { ⌜ ListsReady (now words) (lists lengths (now small) (now medium) (now large)) × HasSlot (now words) i × (rect .x0 ≤ rect .x1) × (rect .y0 ≤ rect .y1) ⌝ }
-    ensures { λ r. ⌜ lists r (now (small .exit)) (now (medium .exit)) (now (large .exit))
-        ≡ moved (now (words .entry)) setup i rect (lists lengths (now (small .entry)) (now (medium .entry)) (now (large .entry))) ⌝ }
-{
-    let without = buckets::forget(small, medium, large, lengths, i.0);
-    entries::add_free_rect(words, small, medium, large, without, setup, i, rect)
 }

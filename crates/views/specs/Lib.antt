@@ -1,3 +1,2 @@
-pub mod EmptyLaws
 pub mod Views
 pub mod ViewsWhen

@@ -1,8 +1,8 @@
--- WHEN EACH ANSWER IS GIVEN, in the paper's words, by the listings and "is it empty"; what comes with 0; and that a refusal
--- gives nothing and changes nothing. Each speaks of any outcome that meets the call's contract; there is no other (`answers-once`).
+-- WHEN EACH ANSWER IS GIVEN, in the paper's words, by the listings; what comes with 0; and that a refusal gives nothing and changes nothing.
+-- Each speaks of any outcome that meets the call's contract; there is no other (`answers-once`).
 -- Assumes nothing.
 use mathlib.Core.Path.{_≡_, refl, ap, sym, _∙_}
-use mathlib.Core.Bool.{Bool, true, false, false≢true}
+use mathlib.Core.Bool.{Bool, true, false}
 use mathlib.Core.Logic.{_↔_}
 use mathlib.Core.List.{List}
 use Prim.Native.Nat.{ℕ, _≤_, _<_}
@@ -25,10 +25,9 @@ use Rattle.steps.specs.State.{State}
 use Rattle.sound.specs.Sound.{Sound}
 use Rattle.lent.specs.Lent.{LentOf}
 use Rattle.outcomes.specs.Given.{Given, given}
-use Rattle.audit.specs.AnswerLaws.{answers-cases, answers-1, answers-2, answers-other, answers-sound, answers-refused, on-sound}
+use Rattle.audit.specs.AnswerLaws.{answers-1, answers-2, answers-other, answers-sound, answers-refused, on-sound}
 use Rattle.listings.specs.Listings.{entries, Filled, filled, writtenOver, listAnswer, listFilled}
-use Rattle.views.specs.Views.{listing, ListCall, WholeFree, OnlyFree, EmptyCall}
-use Rattle.views.specs.EmptyLaws.{whole-free-at-root, whole-free-only}
+use Rattle.views.specs.Views.{listing, ListCall}
 
 -- TICKETS. The ticket that the Alloc listing has for a slot is live,
 pub listed-ticket-is-live : (s : State) → LentOf s → Sound s → (i : ℕ) → i < s .head .count → nodeAt (s .words) (slot i) .kind ≡ Alloc
@@ -96,41 +95,3 @@ module _ (kind : NodeKind) (s : State) (out : List ℕ) where
     listing-refused =
         answers-refused call
         (by-room (λ (g : Given Filled). (g .answer ≡ 0 → ⊥) → g ≡ given (g .answer) (filled 0 out) s) (λ _ _. refl) (λ _ d. absurd (d refl)))
-
--- IS IT EMPTY.
-module _ {s : State} {o : Given Bool} (call : EmptyCall s o) where
-  -- 1: a table length is outside its range.
-  pub empty-gives-1 : (o .answer ≡ 1) ↔ (LentOf s → ⊥)
-  empty-gives-1 = answers-1 call (λ e. omega arith)
-
-  -- 2: the lengths are in range and the tables are not sound.
-  pub empty-gives-2 : (o .answer ≡ 2) ↔ (LentOf s × (Sound s → ⊥))
-  empty-gives-2 = answers-2 call (λ e. omega arith)
-
-  -- 0: the lengths are in range and the tables are sound.
-  pub empty-gives-0 : (o .answer ≡ 0) ↔ (LentOf s × Sound s)
-  empty-gives-0 =
-      let k = answers-other call 0 (λ e. omega arith) (λ e. omega arith) in
-      (λ e. let h = k .0 e in (h .0, h .1), λ h. k .1 (h .0, h .1, refl))
-
-  -- "Yes" is given exactly when, on sound tables of lengths in range, one Free slot is the whole sheet.
-  pub empty-gives-yes : (o .value ≡ true) ↔ (LentOf s × Sound s × WholeFree s)
-  empty-gives-yes =
-      answers-cases call (λ (g : Given Bool). (g .value ≡ true) ↔ (LentOf s × Sound s × WholeFree s))
-      (λ l. (λ e. absurd (false≢true e), λ h. absurd (l (h .0)))) (λ _ u. (λ e. absurd (false≢true e), λ h. absurd (u (h .1))))
-      (λ L S. (λ e. (L, S, whole-free-at-root S .0 e), λ h. whole-free-at-root S .1 (h .2)))
-
-  -- That is: exactly when one Free slot is live, and no other slot is.
-  pub empty-gives-yes-alone : (o .value ≡ true) ↔ (LentOf s × Sound s × OnlyFree s)
-  empty-gives-yes-alone = (
-    λ e. let h = empty-gives-yes .0 e in (h .0, h .1, whole-free-only (h .1) .0 (h .2)),
-    λ h. empty-gives-yes .1 (h .0, h .1, whole-free-only (h .1) .1 (h .2)),
-  )
-
-  -- It changes nothing, whatever it says.
-  pub empty-changes-nothing : o .after ≡ s
-  empty-changes-nothing = answers-cases call (λ (g : Given Bool). g .after ≡ s) (λ _. refl) (λ _ _. refl) (λ _ _. refl)
-
-  -- A refusal says "no" and changes nothing.
-  pub empty-refused : (o .answer ≡ 0 → ⊥) → o ≡ given (o .answer) false s
-  empty-refused = answers-refused call (λ d. absurd (d refl))

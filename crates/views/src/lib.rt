@@ -1,35 +1,13 @@
-// What can be read off the tables: a ticket's rectangle, the listings, whether the sheet is empty, and its size.
+// What can be read off the tables: the listings, and the sheet's size.
 use listings::Listing;
-use slots::AllocIndex;
 use slots::NodeKind;
 use steps::Head;
 ghost use mathlib.Core.Path.{_≡_};
-ghost use Rattle.table.specs.Table.{HasSlot};
 ghost use Rattle.slots.specs.declared.NodeKind.the-variants.{Alloc, Free};
 ghost use Rattle.steps.specs.State.{state};
 ghost use Rattle.outcomes.specs.Given.{given};
 ghost use Rattle.listings.specs.Listings.{filled};
-ghost use Rattle.views.specs.Views.{ListCall, loneFree, EmptyCall};
-
-// A number of the paper's list, with whether the sheet is empty.
-pub struct Emptiness {
-    pub answer: u32,
-    pub empty: bool,
-}
-
-// Whether the root is Free and has no next.
-fn is_lone_free(words: &[u32], root: AllocIndex) -> bool
-    requires { ⌜ HasSlot (now words) root ⌝ }
-    ensures { λ r. ⌜ r ≡ loneFree (now (words .entry)) root ⌝ }
-{
-    let node = table::node_at(words, root);
-    let kind = node.kind;
-    if !slots::same_kind(kind, NodeKind::Free) {
-        return false;
-    }
-    let next = node.next;
-    slots::is_none(next)
-}
+ghost use Rattle.views.specs.Views.{ListCall};
 
 // The listing of a kind, into a lent list. 12: the lent list is shorter than the listing.
 fn for_each_rectangle(
@@ -103,32 +81,6 @@ pub fn for_each_free_rectangle(
         out,
         NodeKind::Free,
     )
-}
-
-// Whether one Free slot is the whole sheet.
-pub fn is_empty(
-    words: &[u32],
-    generations: &[u8],
-    small: &[u32],
-    medium: &[u32],
-    large: &[u32],
-    head: Head,
-) -> Emptiness
-    ensures { λ r. ⌜ EmptyCall (state head (now (words .entry)) (now (generations .entry)) (now (small .entry)) (now (medium .entry)) (now (large .entry)))
-        (given (r .answer) (r .empty) (state head (now (words .exit)) (now (generations .exit)) (now (small .exit)) (now (medium .exit)) (now (large .exit)))) ⌝ }
-{
-    let found = audit::check(words, generations, small, medium, large, head);
-    if found != 0 {
-        return Emptiness {
-            answer: found,
-            empty: false,
-        };
-    }
-    let root = head.root;
-    Emptiness {
-        answer: 0,
-        empty: is_lone_free(words, root),
-    }
 }
 
 // The sheet's size, as the head has it.

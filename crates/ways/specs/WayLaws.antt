@@ -3,13 +3,14 @@
 use mathlib.Core.Path.{_≡_, refl}
 use Prim.Native.Nat.{ℕ, _-_, _≤_}
 use Rattle.geometry.specs.Rectangles.{flip}
-use Rattle.geometry.specs.Sides.{natural, extentOf, setupOf}
+use Rattle.geometry.specs.Sides.{natural, setupOf}
 use Rattle.geometry.specs.declared.AllocatorOptions.{AllocatorOptions}
 use Rattle.geometry.specs.declared.Orientation.{Orientation}
 use Rattle.geometry.specs.declared.Rectangle.{Rectangle}
 use Rattle.geometry.specs.declared.Setup.{Setup}
 use Rattle.geometry.specs.declared.Size.{Size}
-use Rattle.grows.specs.Grows.{growth, along, stripRect}
+use Rattle.strips.specs.Strips.{along, stripRect}
+use Rattle.grows.specs.Grows.{growth}
 use Rattle.ways.specs.Ways.{waysOf}
 use Rattle.ways.specs.declared.Ways.{Ways}
 
@@ -24,7 +25,7 @@ module _ (p q : Setup) (old new : Size) (options : AllocatorOptions) (before : p
   pub ways-done : (o over : Orientation) (a b : ℕ) (r : Rectangle) → over ≡ flip o
       → a ≡ along o (record { width = q .sheet .width - p .sheet .width; height = q .sheet .height - p .sheet .height })
       → b ≡ along over (record { width = q .sheet .width - p .sheet .width; height = q .sheet .height - p .sheet .height })
-      → ((x y : Size) → p .sheet ≡ extentOf x → q .sheet ≡ extentOf y → r ≡ stripRect over x y)
+      → r ≡ stripRect over (p .sheet) (q .sheet)
       → _≡_ {A = Ways} (record { along = a; across = b; strip = r }) (waysOf o old new)
   unfolding waysOf growth setupOf
-  ways-done o over a b r f ea eb er = rw (er old new (rw before) (rw after), ea, eb, before, after, f)
+  ways-done o over a b r f ea eb er = rw (er, ea, eb, before, after, f)

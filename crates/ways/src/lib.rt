@@ -7,7 +7,6 @@ use geometry::Size;
 ghost use mathlib.Core.Path.{_≡_};
 ghost use Prim.Native.Nat.{_≤_};
 ghost use Rattle.geometry.specs.Sides.{natural};
-ghost use Rattle.grows.specs.Grows.{along};
 ghost use Rattle.ways.specs.Ways.{waysOf};
 
 // By how much a sheet grows along an orientation and across it, and the strip across.
@@ -15,16 +14,6 @@ pub struct Ways {
     pub along: u32,
     pub across: u32,
     pub strip: Rectangle,
-}
-
-// The side along an orientation.
-fn side_along(o: Orientation, sides: Extent) -> u32
-    ensures { λ r. ⌜ r ≡ along o sides ⌝ }
-{
-    match o {
-        Orientation::Vertical => sides.height,
-        Orientation::Horizontal => sides.width,
-    }
 }
 
 // How far a sheet grows each way, along an orientation and across it.
@@ -41,9 +30,9 @@ pub fn ways_of(o: Orientation, old: Size, new: Size, options: AllocatorOptions) 
         height: to.height - from.height,
     };
     let over = geometry::flipped(o);
-    let along = side_along(o, by);
-    let across = side_along(over, by);
-    let strip = stretches::strip_rect(over, from, to);
+    let along = strips::side_along(o, by);
+    let across = strips::side_along(over, by);
+    let strip = strips::strip_rect(over, from, to);
     Ways {
         along: along,
         across: across,

@@ -6,14 +6,14 @@ use borrow.Author.Needs.{needs}
 use Rattle.growable.proofs.grow_slots.Statement.{statement}
 use Rattle.growable.proofs.grow_slots.Tie as tie
 
-node-at-requires : tie.Need-node-at-requires
-node-at-requires c κs = search needs
-
 is-lone-requires : tie.Need-is-lone-requires
 is-lone-requires c κs = search needs
 
 returns : tie.Need-returns
-returns c = λ g a b x. slots-lone _ _ (c .before .before .node-at .ensures) (c .before .is-lone .ensures) (c .if1 .taken)
+returns c = λ g a b x. slots-lone _ _ (c .before .is-lone .ensures) (c .if1 .taken)
+
+node-at-requires : tie.Need-node-at-requires
+node-at-requires c κs = search needs
 
 ways-of-requires : tie.Need-ways-of-requires
 ways-of-requires c κs = search needs
@@ -25,18 +25,18 @@ add-result : tie.Need-add-result
 add-result c = record { fits = omega (arith, along-most _ _ _ (c .before .before .slots-along .ensures)) }
 
 returns-2 : tie.Need-returns-2
-returns-2 c = λ g a b x. slots-across _ _ (c .before .before .before .before .before .before .before .node-at .ensures) (c .before .before .before .before .before .before .is-lone .ensures) (c .before .before .before .before .before .if1 .left) (c .before .before .before .before .ways-of .ensures) (c .before .before .slots-along .ensures) (c .if2 .taken)
+returns-2 c = λ g a b x. slots-across _ _ (c .before .before .before .before .before .before .before .is-lone .ensures) (c .before .before .before .before .before .before .if1 .left) (c .before .before .before .before .before .node-at .ensures) (c .before .before .before .before .ways-of .ensures) (c .before .before .slots-along .ensures) (c .if2 .taken)
 
 returns-3 : tie.Need-returns-3
-returns-3 c = λ g a b x. slots-along-alone _ _ (c .before .before .before .before .before .before .before .node-at .ensures) (c .before .before .before .before .before .before .is-lone .ensures) (c .before .before .before .before .before .if1 .left) (c .before .before .before .before .ways-of .ensures) (c .before .before .slots-along .ensures) (c .if2 .left)
+returns-3 c = λ g a b x. slots-along-alone _ _ (c .before .before .before .before .before .before .before .is-lone .ensures) (c .before .before .before .before .before .before .if1 .left) (c .before .before .before .before .before .node-at .ensures) (c .before .before .before .before .ways-of .ensures) (c .before .before .slots-along .ensures) (c .if2 .left)
 
 pub grow-slots-spec : {M : Type 1} → statement M
 grow-slots-spec =
     tie.close
     (tie.spec
-    node-at-requires
     is-lone-requires
     returns
+    node-at-requires
     ways-of-requires
     slots-along-requires
     add-result

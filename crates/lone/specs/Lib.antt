@@ -1,0 +1,2 @@
+pub mod Lone
+pub mod LoneLaws
