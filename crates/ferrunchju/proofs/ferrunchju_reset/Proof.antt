@@ -1,25 +1,12 @@
--- `ferrunchju::ferrunchju_reset` meets its contract: what the call ensures, of the head that the words held and the one that was written over them.
+-- `ferrunchju::ferrunchju_reset` meets its contract: it is a start, of the numbers that it is given.
 -- Assumes nothing.
-use Rattle.heads.specs.WordLaws.{size-read, options-read}
-use Rattle.ferrunchju.specs.HeadLaws.{start-short}
 use borrow.Author.Needs.{needs}
+use Rattle.heads.specs.SignedLaws.{read-back}
 use Rattle.ferrunchju.proofs.ferrunchju_reset.Statement.{statement}
 use Rattle.ferrunchju.proofs.ferrunchju_reset.Tie as tie
 
-head-of-requires : tie.Need-head-of-requires
-head-of-requires c κs = search needs
-
-size-of-requires : tie.Need-size-of-requires
-size-of-requires c κs = search needs
-
-options-of-requires : tie.Need-options-of-requires
-options-of-requires c κs = search needs
-
-reset-requires : tie.Need-reset-requires
-reset-requires c κs = search needs
-
-put-head-requires : tie.Need-put-head-requires
-put-head-requires c κs = start-short _ _ _ (c .before .before .before .before .before .before .before .before .before .before .before .reset .ensures) (c .before .before .before .before .before .before .before .before .before .before .before .before .before .before .before .before .before .before .before .head-of .ensures .1)
+ferrunchju-start-requires : tie.Need-ferrunchju-start-requires
+ferrunchju-start-requires c κs = search needs
 
 same-length : tie.Need-same-length
 same-length c = search needs
@@ -38,24 +25,18 @@ same-length-5 c = search needs
 
 returns : tie.Need-returns
 returns c =
-    let call = c .before .before .before .before .before .before .before .before .before .before .before .before in
-    let options = call .before .before .before .before .before .before in
-    let size = options .before in
-    let fits = size .before .before .before .before .before .before .before .before .fits in
-    let args = size .before .before .before .before .before .before .before .before .args in
-    let sheet-is = size-read {w = args .width} {h = args .height} (size .size-of .ensures) (fits .width .sfits) (fits .height .sfits) in
-    let options-are = options-read {w = args .alignment-width} {h = args .alignment-height} {a = args .small-threshold} {b = args .large-threshold} (options .options-of .ensures) (fits .alignment-width .sfits) (fits .alignment-height .sfits) (fits .small-threshold .sfits) (fits .large-threshold .sfits) in
-    rw (c .put-head .ensures, ← size .before .head-of .ensures .0) (rw (sheet-is, options-are) at (call .reset .ensures))
+    let call = c .before .before .before .before .before .before .before .before .before .before in
+    let entry = call .before .before .before .before .before .before .before .before .before .before .before .before in
+    let args = entry .args in
+    let fits = entry .fits in
+    rw (read-back (args .width) (fits .width .sfits), read-back (args .height) (fits .height .sfits), read-back (args .alignment-width) (fits .alignment-width .sfits), read-back (args .alignment-height) (fits .alignment-height .sfits), read-back (args .small-threshold) (fits .small-threshold .sfits), read-back (args .large-threshold) (fits .large-threshold .sfits))
+    at (call .ferrunchju-start .ensures)
 
 pub ferrunchju-reset-spec : {M : Type 1} → statement M
 ferrunchju-reset-spec =
     tie.close
     (tie.spec
-    head-of-requires
-    size-of-requires
-    options-of-requires
-    reset-requires
-    put-head-requires
+    ferrunchju-start-requires
     same-length
     same-length-2
     same-length-3
