@@ -42,8 +42,8 @@ fn merge_siblings(words: &mut [u32], spare: AllocIndex, a: AllocIndex, b: AllocI
         x1: s.x1,
         y1: s.y1,
     };
-    table::set_rect(words, a, whole);
-    table::set_next(words, a, next);
+    stores::set_rect(words, a, whole);
+    stores::set_next(words, a, next);
     pairs::answer_link(words, next, a);
     steps::mark_node_unused(words, spare, b);
 }

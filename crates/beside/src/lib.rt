@@ -13,8 +13,8 @@ pub fn turn(words: &mut [u32], i: AllocIndex, rect: Rectangle)
     requires { ⌜ HasSlot (now words) i ⌝ }
     ensures { λ _. ⌜ now (words .exit) ≡ turned (now (words .entry)) i rect ⌝ }
 {
-    table::set_kind(words, i, NodeKind::Alloc);
-    table::set_rect(words, i, rect);
+    stores::set_kind(words, i, NodeKind::Alloc);
+    stores::set_rect(words, i, rect);
 }
 
 // Split becomes the chosen slot's next sibling.
@@ -34,7 +34,7 @@ pub fn split_beside(words: &mut [u32], i: AllocIndex, s: AllocIndex, rect: Recta
         orientation: o,
         rect: rect,
     };
-    table::put_node(words, s, split);
-    table::set_next(words, i, s);
+    stores::put_node(words, s, split);
+    stores::set_next(words, i, s);
     pairs::answer_link(words, next, s);
 }

@@ -150,7 +150,7 @@ pub fn carve(
         }
         Shape::AlongLeft => {
             beside::split_beside(words, i, s, split);
-            table::set_kind(words, i, NodeKind::Container);
+            stores::set_kind(words, i, NodeKind::Container);
             pairs::put_pair(
                 words,
                 i,
@@ -163,7 +163,7 @@ pub fn carve(
             );
         }
         Shape::Across => {
-            table::set_kind(words, i, NodeKind::Container);
+            stores::set_kind(words, i, NodeKind::Container);
             pairs::put_pair(
                 words,
                 i,
@@ -176,7 +176,7 @@ pub fn carve(
             );
         }
         Shape::AcrossLeft => {
-            table::set_kind(words, i, NodeKind::Container);
+            stores::set_kind(words, i, NodeKind::Container);
             let zero = Rectangle {
                 x0: 0,
                 y0: 0,

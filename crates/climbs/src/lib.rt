@@ -33,8 +33,8 @@ fn give_up(words: &mut [u32], spare: AllocIndex, child: AllocIndex) -> Rung
     let node = table::node_at(words, child);
     let rect = node.rect;
     let parent = node.parent;
-    table::set_rect(words, parent, rect);
-    table::set_kind(words, parent, NodeKind::Free);
+    stores::set_rect(words, parent, rect);
+    stores::set_kind(words, parent, NodeKind::Free);
     steps::mark_node_unused(words, spare, child);
     Rung {
         spare: child,

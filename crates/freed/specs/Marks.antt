@@ -8,8 +8,8 @@ use mathlib.Core.List.{List}
 use native.Mathlib.Decide.{ℕ-discrete}
 use lib.ListN.{length}
 use Rattle.table.specs.Table.{HasSlot}
-use Rattle.table.specs.Stores.{stored, toKind, toNext}
-use Rattle.table.specs.TableLaws.{length-stored, has-stored, nodeAt-stored-same}
+use Rattle.stores.specs.Stores.{stored, toKind, toNext}
+use Rattle.stores.specs.StoreLaws.{length-stored, has-stored, nodeAt-stored-same}
 use Rattle.slots.specs.declared.AllocIndex.{AllocIndex}
 use Rattle.slots.specs.declared.NodeKind.the-variants.{Unused}
 use Rattle.steps.specs.Spares.{markedUnused}

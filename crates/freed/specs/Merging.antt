@@ -10,8 +10,8 @@ use Rattle.geometry.specs.Choice.{pick-elim}
 use Rattle.geometry.specs.declared.Rectangle.{Rectangle}
 use Rattle.slots.specs.Slots.{isNone}
 use Rattle.table.specs.Table.{nodeAt, HasSlot}
-use Rattle.table.specs.Stores.{stored, toNext, toPrev, toKind, toRect}
-use Rattle.table.specs.TableLaws.{length-stored, has-stored, nodeAt-stored-same, nodeAt-stored-other}
+use Rattle.stores.specs.Stores.{stored, toNext, toPrev, toKind, toRect}
+use Rattle.stores.specs.StoreLaws.{length-stored, has-stored, nodeAt-stored-same, nodeAt-stored-other}
 use Rattle.slots.specs.declared.AllocIndex.{AllocIndex}
 use Rattle.slots.specs.declared.NodeKind.the-variants.{Free}
 use Rattle.steps.specs.Spares.{markedUnused}

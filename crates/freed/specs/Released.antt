@@ -11,8 +11,8 @@ use lib.Dec.{eqb}
 use lib.ListN.{length}
 use Rattle.slots.specs.Slots.{slot}
 use Rattle.table.specs.Table.{nodeAt}
-use Rattle.table.specs.Stores.{stored, toKind}
-use Rattle.table.specs.TableLaws.{length-stored}
+use Rattle.stores.specs.Stores.{stored, toKind}
+use Rattle.stores.specs.StoreLaws.{length-stored}
 use Rattle.slots.specs.declared.AllocIndex.{AllocIndex}
 use Rattle.slots.specs.declared.NodeKind.the-variants.{Alloc, Free}
 use Rattle.lists.specs.Counts.{count}

@@ -7,7 +7,7 @@ use Prim.Native.Nat.{ℕ, zero, suc}
 use Rattle.geometry.specs.Choice.{pick}
 use Rattle.slots.specs.Slots.{isNone}
 use Rattle.table.specs.Table.{nodeAt}
-use Rattle.table.specs.Stores.{stored, toNext, toKind, toRect}
+use Rattle.stores.specs.Stores.{stored, toNext, toKind, toRect}
 use Rattle.slots.specs.declared.AllocIndex.{AllocIndex}
 use Rattle.slots.specs.declared.NodeKind.the-variants.{Free}
 use Rattle.lists.specs.Lists.{freeEntry}

@@ -4,7 +4,7 @@ use mathlib.Core.List.{List}
 use Prim.Native.Nat.{ℕ}
 use Rattle.geometry.specs.Sides.{setupOf}
 use Rattle.table.specs.Table.{nodeAt}
-use Rattle.table.specs.Stores.{stored, toKind}
+use Rattle.stores.specs.Stores.{stored, toKind}
 use Rattle.slots.specs.declared.AllocIndex.{AllocIndex}
 use Rattle.slots.specs.declared.NodeKind.the-variants.{Free}
 use Rattle.steps.specs.Spares.{withSpare}

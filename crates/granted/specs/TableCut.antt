@@ -11,8 +11,8 @@ use Rattle.cuts.specs.declared.Cut.{Cut}
 use Rattle.geometry.specs.declared.Rectangle.{Rectangle}
 use Rattle.slots.specs.Slots.{slot}
 use Rattle.table.specs.Table.{nodeAt, HasSlot}
-use Rattle.table.specs.Stores.{stored, toKind}
-use Rattle.table.specs.TableLaws.{length-stored}
+use Rattle.stores.specs.Stores.{stored, toKind}
+use Rattle.stores.specs.StoreLaws.{length-stored}
 use Rattle.slots.specs.declared.AllocIndex.{AllocIndex}
 use Rattle.slots.specs.declared.NodeKind.the-variants.{Container, Alloc, Free}
 use Rattle.steps.specs.declared.Head.{Head}

@@ -12,8 +12,8 @@ use Rattle.geometry.specs.declared.Orientation.{Orientation}
 use Rattle.geometry.specs.declared.Rectangle.{Rectangle}
 use Rattle.slots.specs.Slots.{slot, isNone}
 use Rattle.table.specs.Table.{nodeAt, HasSlot}
-use Rattle.table.specs.Stores.{Store, toNext, toPrev, toKind, toRect, toNode, stored, after}
-use Rattle.table.specs.TableLaws.{length-stored, has-stored, nodeAt-stored-same, nodeAt-stored-other}
+use Rattle.stores.specs.Stores.{Store, toNext, toPrev, toKind, toRect, toNode, stored, after}
+use Rattle.stores.specs.StoreLaws.{length-stored, has-stored, nodeAt-stored-same, nodeAt-stored-other}
 use Rattle.slots.specs.declared.AllocIndex.{AllocIndex}
 use Rattle.slots.specs.declared.NodeKind.{NodeKind}
 use Rattle.slots.specs.declared.NodeKind.the-variants.{Alloc, Free}

@@ -9,7 +9,7 @@ use Rattle.geometry.specs.declared.Orientation.{Orientation}
 use Rattle.geometry.specs.declared.Rectangle.{Rectangle}
 use Rattle.slots.specs.Slots.{none, isNone}
 use Rattle.table.specs.Table.{nodeAt}
-use Rattle.table.specs.Stores.{stored, toNext, toPrev, toKind, toRect, toNode}
+use Rattle.stores.specs.Stores.{stored, toNext, toPrev, toKind, toRect, toNode}
 use Rattle.slots.specs.declared.AllocIndex.{AllocIndex}
 use Rattle.slots.specs.declared.Node.{Node}
 use Rattle.slots.specs.declared.NodeKind.{NodeKind}

@@ -10,8 +10,8 @@ use Rattle.geometry.specs.declared.Orientation.{Orientation}
 use Rattle.geometry.specs.declared.Rectangle.{Rectangle}
 use Rattle.geometry.specs.declared.Setup.{Setup}
 use Rattle.table.specs.Table.{HasSlot}
-use Rattle.table.specs.Stores.{stored, toRect}
-use Rattle.table.specs.TableLaws.{length-stored, has-stored}
+use Rattle.stores.specs.Stores.{stored, toRect}
+use Rattle.stores.specs.StoreLaws.{length-stored, has-stored}
 use Rattle.slots.specs.declared.AllocIndex.{AllocIndex}
 use Rattle.buckets.specs.FreeLists.{Lists, lists}
 use Rattle.steps.specs.Spares.{Fresh, newNode, HasSpare}

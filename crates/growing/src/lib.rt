@@ -32,7 +32,7 @@ pub fn stretch(
 {
     let setup = geometry::setup_of(head.sheet, head.options);
     let lengths = head.lengths;
-    table::set_rect(words, i, rect);
+    stores::set_rect(words, i, rect);
     let more = moves::move_entry(words, small, medium, large, lengths, setup, i, rect);
     let mut after = head;
     after.lengths = more;
@@ -53,8 +53,8 @@ fn link_after(words: &mut [u32], i: AllocIndex, f: AllocIndex, o: Orientation, r
         orientation: o,
         rect: rect,
     };
-    table::set_next(words, i, f);
-    table::put_node(words, f, tail);
+    stores::set_next(words, i, f);
+    stores::put_node(words, f, tail);
 }
 
 // A new Free slot follows slot i, the last of the top chain.

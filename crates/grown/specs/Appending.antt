@@ -13,8 +13,8 @@ use Rattle.geometry.specs.declared.Rectangle.{Rectangle}
 use Rattle.slots.specs.declared.AllocIndex.{AllocIndex}
 use Rattle.slots.specs.declared.NodeKind.the-variants.{Free}
 use Rattle.table.specs.Table.{HasSlot}
-use Rattle.table.specs.Stores.{stored, toNext, toNode}
-use Rattle.table.specs.TableLaws.{length-stored, has-stored}
+use Rattle.stores.specs.Stores.{stored, toNext, toNode}
+use Rattle.stores.specs.StoreLaws.{length-stored, has-stored}
 use Rattle.steps.specs.Spares.{Fresh, newNode}
 use Rattle.steps.specs.State.{State, listsOf}
 use Rattle.steps.specs.declared.Head.{Head}

@@ -11,8 +11,8 @@ use Rattle.geometry.specs.Choice.{pick-elim}
 use Rattle.slots.specs.Slots.{slot, isNone}
 use Rattle.slots.specs.declared.AllocIndex.{AllocIndex}
 use Rattle.table.specs.Table.{nodeAt, HasSlot}
-use Rattle.table.specs.Stores.{stored, toParent}
-use Rattle.table.specs.TableLaws.{length-stored, has-stored}
+use Rattle.stores.specs.Stores.{stored, toParent}
+use Rattle.stores.specs.StoreLaws.{length-stored, has-stored}
 use Rattle.sound.specs.View.{Link, to, linkOf, Seen, seen}
 use Rattle.sound.specs.Rules.{Visits, it, later}
 use Rattle.sound.specs.ViewLaws.{to-inj, no-link}

@@ -11,8 +11,8 @@ use Rattle.geometry.specs.declared.Rectangle.{Rectangle}
 use Rattle.slots.specs.declared.AllocIndex.{AllocIndex}
 use Rattle.slots.specs.declared.NodeKind.the-variants.{Free}
 use Rattle.table.specs.Table.{HasSlot}
-use Rattle.table.specs.Stores.{stored, toRect}
-use Rattle.table.specs.TableLaws.{length-stored}
+use Rattle.stores.specs.Stores.{stored, toRect}
+use Rattle.stores.specs.StoreLaws.{length-stored}
 use Rattle.steps.specs.State.{State, listsOf}
 use Rattle.sound.specs.View.{none, Seen, seen, Live}
 use Rattle.sound.specs.Rules.{NotEmpty, Adjoin, join}

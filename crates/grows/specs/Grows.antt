@@ -15,7 +15,7 @@ use Rattle.geometry.specs.declared.Setup.{Setup}
 use Rattle.geometry.specs.declared.Size.{Size}
 use Rattle.slots.specs.Slots.{none, isNone}
 use Rattle.table.specs.Table.{nodeAt}
-use Rattle.table.specs.Stores.{stored, toParent, toNext, toRect, toNode}
+use Rattle.stores.specs.Stores.{stored, toParent, toNext, toRect, toNode}
 use Rattle.slots.specs.declared.AllocIndex.{AllocIndex}
 use Rattle.slots.specs.declared.Node.{Node}
 use Rattle.slots.specs.declared.NodeKind.the-variants.{Container, Free}

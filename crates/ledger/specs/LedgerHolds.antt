@@ -7,8 +7,8 @@ use Rattle.geometry.specs.Sides.{natural, sheetSide, validSetup, setupOf}
 use Rattle.rounding.specs.Rounding.{roundUp, rounded, requestOf}
 use Rattle.cuts.specs.Cuts.{areaCompared, exactFit, cutWay, cutOf}
 use Rattle.slots.specs.Slots.{kindOf, orientationOf}
-use Rattle.table.specs.Stores.{storedRect, stored}
-use Rattle.table.specs.Table.{word, setWord, nodeAt}
+use Rattle.stores.specs.Stores.{setWord, storedRect, stored}
+use Rattle.table.specs.Table.{word, nodeAt}
 use Rattle.lists.specs.Lists.{firstOf}
 use Rattle.pushes.specs.Pushes.{pushed}
 use Rattle.buckets.specs.FreeLists.{entryIn, entryOf, forgotten}

@@ -3,9 +3,9 @@
 use mathlib.Core.Path.{_≡_}
 use mathlib.Core.List.{List}
 use Prim.Native.Nat.{ℕ, suc}
-use Rattle.table.specs.Stores.{Store, stored}
+use Rattle.stores.specs.Stores.{Store, stored}
 use Rattle.slots.specs.declared.AllocIndex.{AllocIndex}
-use Rattle.table.specs.TableLaws.{has-stored}
+use Rattle.stores.specs.StoreLaws.{has-stored}
 use Rattle.steps.specs.Spares.{Fresh, newNode}
 use Rattle.steps.specs.declared.Head.{Head}
 use Rattle.pairs.specs.Pairs.{Pair, twoNodes, CanTake, LinkHas}

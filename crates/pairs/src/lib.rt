@@ -66,8 +66,8 @@ pub fn put_pair(
         orientation: o,
         rect: other,
     };
-    table::put_node(words, a, first);
-    table::put_node(words, b, last);
+    stores::put_node(words, a, first);
+    stores::put_node(words, b, last);
 }
 
 // A link to j, unless it is none, is answered by j's prev.
@@ -78,5 +78,5 @@ pub fn answer_link(words: &mut [u32], j: AllocIndex, s: AllocIndex)
     if slots::is_none(j) {
         return;
     }
-    table::set_prev(words, j, s);
+    stores::set_prev(words, j, s);
 }

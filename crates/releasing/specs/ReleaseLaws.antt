@@ -10,7 +10,7 @@ use lib.ListN.{length}
 use Rattle.geometry.specs.Sides.{setupOf}
 use Rattle.geometry.specs.declared.Setup.{Setup}
 use Rattle.table.specs.Table.{nodeAt, HasSlot}
-use Rattle.table.specs.Stores.{stored, toKind}
+use Rattle.stores.specs.Stores.{stored, toKind}
 use Rattle.slots.specs.declared.AllocIndex.{AllocIndex}
 use Rattle.slots.specs.declared.Node.{Node}
 use Rattle.slots.specs.declared.NodeKind.the-variants.{Free}

@@ -25,7 +25,7 @@ pub fn release(
     let setup = geometry::setup_of(head.sheet, head.options);
     let first = head.spare;
     let lengths = head.lengths;
-    table::set_kind(words, i, NodeKind::Free);
+    stores::set_kind(words, i, NodeKind::Free);
     let end = climbs::climb(words, first, i, head.count);
     let spare = end.spare;
     let at = end.at;

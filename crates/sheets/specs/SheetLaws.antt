@@ -14,8 +14,8 @@ use Rattle.geometry.specs.declared.Setup.{Setup}
 use Rattle.geometry.specs.declared.Size.{Size}
 use Rattle.slots.specs.Slots.{slot, none}
 use Rattle.table.specs.Table.{HasSlot}
-use Rattle.table.specs.TableLaws.{length-stored}
-use Rattle.table.specs.Stores.{stored, toNode}
+use Rattle.stores.specs.StoreLaws.{length-stored}
+use Rattle.stores.specs.Stores.{stored, toNode}
 use Rattle.slots.specs.declared.Node.{Node}
 use Rattle.lists.specs.Lists.{Bag, bag, appended, Entries}
 use Rattle.pushes.specs.Pushes.{Pushable}

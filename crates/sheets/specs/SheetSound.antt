@@ -20,8 +20,8 @@ use Rattle.geometry.specs.declared.Rectangle.{Rectangle}
 use Rattle.geometry.specs.declared.Size.{Size}
 use Rattle.slots.specs.Slots.{slot, none}
 use Rattle.table.specs.Table.{nodeAt}
-use Rattle.table.specs.TableLaws.{nodeAt-stored-same}
-use Rattle.table.specs.Stores.{stored, toNode}
+use Rattle.stores.specs.StoreLaws.{nodeAt-stored-same}
+use Rattle.stores.specs.Stores.{stored, toNode}
 use Rattle.slots.specs.declared.NodeKind.the-variants.{Free}
 use Rattle.lists.specs.Lists.{Bag, bag, appended, Each}
 use Rattle.buckets.specs.FreeLists.{Lists, listOf, withList}

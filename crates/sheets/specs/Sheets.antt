@@ -11,7 +11,7 @@ use Rattle.geometry.specs.declared.Orientation.the-variants.{Vertical}
 use Rattle.geometry.specs.declared.Setup.{Setup}
 use Rattle.geometry.specs.declared.Size.{Size}
 use Rattle.slots.specs.Slots.{slot, none}
-use Rattle.table.specs.Stores.{stored, toNode}
+use Rattle.stores.specs.Stores.{stored, toNode}
 use Rattle.slots.specs.declared.Node.{Node}
 use Rattle.slots.specs.declared.NodeKind.the-variants.{Free}
 use Rattle.lists.specs.Lists.{bag, appended}

@@ -55,7 +55,7 @@ pub fn begin(
         setup.sheet.width,
         setup.sheet.height,
     );
-    table::put_node(words, AllocIndex(0), whole_sheet(setup));
+    stores::put_node(words, AllocIndex(0), whole_sheet(setup));
     generations[0] = 0;
     let none = Lengths {
         small: 0,

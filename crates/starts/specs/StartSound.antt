@@ -10,8 +10,8 @@ use Rattle.geometry.specs.declared.Bucket.{Bucket}
 use Rattle.geometry.specs.declared.Bucket.the-variants.{Small, Medium, Large}
 use Rattle.geometry.specs.declared.Setup.{Setup}
 use Rattle.slots.specs.Slots.{slot}
-use Rattle.table.specs.Stores.{stored, toNode}
-use Rattle.table.specs.TableLaws.{length-stored}
+use Rattle.stores.specs.Stores.{stored, toNode}
+use Rattle.stores.specs.StoreLaws.{length-stored}
 use Rattle.lists.specs.Lists.{appended}
 use Rattle.buckets.specs.FreeLists.{listOf, withList}
 use Rattle.geometry.specs.declared.AllocatorOptions.{AllocatorOptions}

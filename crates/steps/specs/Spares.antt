@@ -7,7 +7,7 @@ use lib.Dec.{ltb}
 use Rattle.geometry.specs.Choice.{pick}
 use Rattle.slots.specs.Slots.{slot, sameKind}
 use Rattle.table.specs.Table.{nodeAt}
-use Rattle.table.specs.Stores.{stored, toKind, toNext}
+use Rattle.stores.specs.Stores.{stored, toKind, toNext}
 use Rattle.slots.specs.declared.AllocIndex.{AllocIndex}
 use Rattle.slots.specs.declared.NodeKind.{NodeKind}
 use Rattle.slots.specs.declared.NodeKind.the-variants.{Unused}

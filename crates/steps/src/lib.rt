@@ -65,6 +65,6 @@ pub fn mark_node_unused(words: &mut [u32], spare: AllocIndex, i: AllocIndex)
     requires { ⌜ HasSlot (now words) i ⌝ }
     ensures { λ _. ⌜ now (words .exit) ≡ markedUnused (now (words .entry)) spare i ⌝ }
 {
-    table::set_kind(words, i, NodeKind::Unused);
-    table::set_next(words, i, spare);
+    stores::set_kind(words, i, NodeKind::Unused);
+    stores::set_next(words, i, spare);
 }

@@ -11,8 +11,8 @@ use Rattle.slots.specs.Slots.{slot, isNone}
 use Rattle.slots.specs.declared.AllocIndex.{AllocIndex}
 use Rattle.slots.specs.declared.Node.{Node}
 use Rattle.table.specs.Table.{nodeAt, HasSlot}
-use Rattle.table.specs.Stores.{stored, toParent}
-use Rattle.table.specs.TableLaws.{length-stored, has-stored, nodeAt-stored-same, nodeAt-stored-other}
+use Rattle.stores.specs.Stores.{stored, toParent}
+use Rattle.stores.specs.StoreLaws.{length-stored, has-stored, nodeAt-stored-same, nodeAt-stored-other}
 use Rattle.grows.specs.Grows.{lastFrom, reparented}
 use Rattle.stretches.specs.Chains.{ChainHas}
 

@@ -37,7 +37,7 @@ pub fn reparent(words: &mut [u32], n: u32, p: AllocIndex, i: AllocIndex)
             return;
         }
         let node = table::node_at(words, at);
-        table::set_parent(words, at, p);
+        stores::set_parent(words, at, p);
         at = node.next;
         rest -= 1;
     }

@@ -1,3 +1,1 @@
 pub mod Table
-pub mod Stores
-pub mod TableLaws

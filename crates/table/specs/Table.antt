@@ -2,7 +2,7 @@
 -- Assumes nothing.
 use mathlib.Core.List.{List}
 use Prim.Native.Nat.{ℕ, _+_, _*_, _≤_}
-use lib.ListN.{length, getD, set}
+use lib.ListN.{length, getD}
 use Rattle.slots.specs.Slots.{slot, kindOf, orientationOf}
 use Rattle.slots.specs.declared.AllocIndex.{AllocIndex}
 use Rattle.slots.specs.declared.Node.{Node}
@@ -11,12 +11,9 @@ use Rattle.slots.specs.declared.Node.{Node}
 abbrev pub HasSlot : List ℕ → AllocIndex → Type 0
 HasSlot w i = i .0 * 8 + 8 ≤ length w
 
--- Word f of slot i, and the table with another word there.
+-- Word f of slot i.
 unfoldable pub word : List ℕ → AllocIndex → ℕ → ℕ
 word w i f = getD w (i .0 * 8 + f) 0
-
-unfoldable pub setWord : List ℕ → AllocIndex → ℕ → ℕ → List ℕ
-setWord w i f v = set w (i .0 * 8 + f) v
 
 -- The contents of slot i.
 unfoldable pub nodeAt : List ℕ → AllocIndex → Node

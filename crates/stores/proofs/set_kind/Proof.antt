@@ -1,7 +1,7 @@
-use Rattle.table.specs.Stores.{stored}
+use Rattle.stores.specs.Stores.{stored}
 use borrow.Author.Needs.{needs}
-use Rattle.table.proofs.set_kind.Statement.{statement}
-use Rattle.table.proofs.set_kind.Tie as tie
+use Rattle.stores.proofs.set_kind.Statement.{statement}
+use Rattle.stores.proofs.set_kind.Tie as tie
 
 word-at-requires : tie.Need-word-at-requires
 word-at-requires c κs = search needs

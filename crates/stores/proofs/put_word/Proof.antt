@@ -1,7 +1,7 @@
-use Rattle.table.specs.Table.{setWord}
+use Rattle.stores.specs.Stores.{setWord}
 use borrow.Author.Needs.{needs}
-use Rattle.table.proofs.put_word.Statement.{statement}
-use Rattle.table.proofs.put_word.Tie as tie
+use Rattle.stores.proofs.put_word.Statement.{statement}
+use Rattle.stores.proofs.put_word.Tie as tie
 
 cast-at : tie.Need-cast-at
 cast-at c = search needs

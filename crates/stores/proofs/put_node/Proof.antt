@@ -1,7 +1,7 @@
-use Rattle.table.specs.Stores.{stored, storedRect}
+use Rattle.stores.specs.Stores.{stored, storedRect}
 use borrow.Author.Needs.{needs}
-use Rattle.table.proofs.put_node.Statement.{statement}
-use Rattle.table.proofs.put_node.Tie as tie
+use Rattle.stores.proofs.put_node.Statement.{statement}
+use Rattle.stores.proofs.put_node.Tie as tie
 
 code-of-requires : tie.Need-code-of-requires
 code-of-requires c κs = search needs

@@ -11,8 +11,8 @@ use lib.Seq.{getD-set-same, getD-set-other}
 use borrow.Author.Tests.{ltb-true, eqb-false, leb-true, le-leb}
 use Rattle.slots.specs.SlotLaws.{kind-code, orientation-code}
 use Rattle.slots.specs.declared.AllocIndex.{AllocIndex}
-use Rattle.table.specs.Table.{word, setWord, nodeAt, HasSlot}
-use Rattle.table.specs.Stores.{Store, toParent, toNext, toPrev, toKind, toRect, toNode, stored, storedRect, after}
+use Rattle.table.specs.Table.{word, nodeAt, HasSlot}
+use Rattle.stores.specs.Stores.{setWord, Store, toParent, toNext, toPrev, toKind, toRect, toNode, stored, storedRect, after}
 
 -- Words: the one that was stored, another of the same slot, and those of other slots.
 word-same : (w : List ℕ) (i : AllocIndex) (f v : ℕ) → ltb f 8 ≡ true → leb (i .0 * 8 + 8) (length w) ≡ true → word (setWord w i f v) i f ≡ v

@@ -1,7 +1,7 @@
-use Rattle.table.specs.Stores.{stored}
+use Rattle.stores.specs.Stores.{stored}
 use borrow.Author.Needs.{needs}
-use Rattle.table.proofs.set_prev.Statement.{statement}
-use Rattle.table.proofs.set_prev.Tie as tie
+use Rattle.stores.proofs.set_prev.Statement.{statement}
+use Rattle.stores.proofs.set_prev.Tie as tie
 
 put-word-requires : tie.Need-put-word-requires
 put-word-requires c κs = search needs

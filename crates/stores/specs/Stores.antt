@@ -1,13 +1,18 @@
 -- What is stored at a slot: one field or the whole node.
 -- Assumes nothing.
 use mathlib.Core.List.{List}
-use Prim.Native.Nat.{ℕ}
+use Prim.Native.Nat.{ℕ, _+_, _*_}
+use lib.ListN.{set}
 use Rattle.geometry.specs.declared.Rectangle.{Rectangle}
-use Rattle.table.specs.Table.{word, setWord}
+use Rattle.table.specs.Table.{word}
 use Rattle.slots.specs.Slots.{codeOf, orientationOf}
 use Rattle.slots.specs.declared.AllocIndex.{AllocIndex}
 use Rattle.slots.specs.declared.NodeKind.{NodeKind}
 use Rattle.slots.specs.declared.Node.{Node}
+
+-- The table with another word f of slot i.
+unfoldable pub setWord : List ℕ → AllocIndex → ℕ → ℕ → List ℕ
+setWord w i f v = set w (i .0 * 8 + f) v
 
 -- A store: of a link, of the kind, of the rectangle, or of all.
 pub data Store : Type 0 where
