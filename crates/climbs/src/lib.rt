@@ -31,9 +31,8 @@ fn give_up(words: &mut [u32], spare: AllocIndex, child: AllocIndex) -> Rung
     ensures { λ r. ⌜ level (now (words .exit)) (r .spare) (r .at) ≡ givenUp (level (now (words .entry)) spare child) ⌝ }
 {
     let node = table::node_at(words, child);
-    let rect = node.rect;
     let parent = node.parent;
-    stores::set_rect(words, parent, rect);
+    stores::copy_rect(words, child, parent);
     stores::set_kind(words, parent, NodeKind::Free);
     steps::mark_node_unused(words, spare, child);
     Rung {

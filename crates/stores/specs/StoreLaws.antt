@@ -28,6 +28,18 @@ unfolding word setWord
 word-slot w i j f g v n hf hg =
     getD-set-other w (i .0 * 8 + f) (j .0 * 8 + g) v 0 (λ e. n (omega (arith, ltb-true f 8 hf, ltb-true g 8 hg)))
 
+-- Words of different numbers are apart, whichever the slots.
+word-apart : (w : List ℕ) (i j : AllocIndex) (f g v : ℕ) → eqb g f ≡ false → ltb f 8 ≡ true → ltb g 8 ≡ true → word (setWord w i f v) j g ≡ word w j g
+unfolding word setWord
+word-apart w i j f g v h hf hg =
+    getD-set-other w (i .0 * 8 + f) (j .0 * 8 + g) v 0 (λ e. eqb-false g f h (omega (arith, ltb-true f 8 hf, ltb-true g 8 hg)))
+
+-- A rectangle copied word by word.
+pub copied : (w a b c d : List ℕ) (i j : AllocIndex) (p q r s : ℕ) → p ≡ word w i 4 → a ≡ setWord w j 4 p → q ≡ word a i 5 → b ≡ setWord a j 5 q
+    → r ≡ word b i 6 → c ≡ setWord b j 6 r → s ≡ word c i 7 → d ≡ setWord c j 7 s → d ≡ stored w j (toRect (nodeAt w i .rect))
+unfolding stored storedRect nodeAt
+copied w a b c d i j p q r s e0 e1 f0 f1 g0 g1 h0 h1 = rw (h1, h0, g1, g0, f1, f0, e1, e0) (simp word-apart)
+
 length-setWord : (w : List ℕ) (i : AllocIndex) (f v : ℕ) → length (setWord w i f v) ≡ length w
 unfolding setWord
 length-setWord w i f v = simp length-set
