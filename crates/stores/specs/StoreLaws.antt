@@ -34,11 +34,11 @@ unfolding word setWord
 word-apart w i j f g v h hf hg =
     getD-set-other w (i .0 * 8 + f) (j .0 * 8 + g) v 0 (λ e. eqb-false g f h (omega (arith, ltb-true f 8 hf, ltb-true g 8 hg)))
 
--- A rectangle copied word by word.
-pub copied : (w a b c d : List ℕ) (i j : AllocIndex) (p q r s : ℕ) → p ≡ word w i 4 → a ≡ setWord w j 4 p → q ≡ word a i 5 → b ≡ setWord a j 5 q
-    → r ≡ word b i 6 → c ≡ setWord b j 6 r → s ≡ word c i 7 → d ≡ setWord c j 7 s → d ≡ stored w j (toRect (nodeAt w i .rect))
+-- A rectangle copied corner by corner.
+pub copied : (w a b c d : List ℕ) (i j : AllocIndex) (p q r s : ℕ) → p ≡ word w i 4 → q ≡ word w i 5 → a ≡ setWord w j 4 p → b ≡ setWord a j 5 q
+    → r ≡ word b i 6 → s ≡ word b i 7 → c ≡ setWord b j 6 r → d ≡ setWord c j 7 s → d ≡ stored w j (toRect (nodeAt w i .rect))
 unfolding stored storedRect nodeAt
-copied w a b c d i j p q r s e0 e1 f0 f1 g0 g1 h0 h1 = rw (h1, h0, g1, g0, f1, f0, e1, e0) (simp word-apart)
+copied w a b c d i j p q r s e f g h k l m n = rw (n, l, m, k, h, f, g, e) (simp word-apart)
 
 length-setWord : (w : List ℕ) (i : AllocIndex) (f v : ℕ) → length (setWord w i f v) ≡ length w
 unfolding setWord

@@ -74,17 +74,17 @@ pub fn set_rect(words: &mut [u32], i: AllocIndex, rect: Rectangle)
     put_word(words, i, 7, rect.y1);
 }
 
-// Copies the rectangle of slot i to slot j, word by word.
+// Copies the rectangle of slot i to slot j, corner by corner.
 pub fn copy_rect(words: &mut [u32], i: AllocIndex, j: AllocIndex)
     requires { ⌜ HasSlot (now words) i × HasSlot (now words) j ⌝ }
     ensures { λ _. ⌜ now (words .exit) ≡ stored (now (words .entry)) j (toRect (nodeAt (now (words .entry)) i .rect)) ⌝ }
 {
     let x0 = table::word_at(words, i, 4);
-    put_word(words, j, 4, x0);
     let y0 = table::word_at(words, i, 5);
+    put_word(words, j, 4, x0);
     put_word(words, j, 5, y0);
     let x1 = table::word_at(words, i, 6);
-    put_word(words, j, 6, x1);
     let y1 = table::word_at(words, i, 7);
+    put_word(words, j, 6, x1);
     put_word(words, j, 7, y1);
 }
