@@ -2,54 +2,15 @@
 use geometry::Bucket;
 use lists::Found;
 ghost use mathlib.Core.Path.{_≡_};
-ghost use mathlib.Core.Bool.{true};
 ghost use Prim.Native.Nat.{_<_};
-ghost use Rattle.pushes.specs.Pushes.{hasRoom, Pushable};
-ghost use Rattle.buckets.specs.FreeLists.{lists, listOf, appendedIn, sweptAndAppendedIn, pushedTo, removedFrom, firstIn, entryOf, forgotten, Within};
+ghost use Rattle.pushes.specs.Pushes.{Pushable};
+ghost use Rattle.buckets.specs.FreeLists.{lists, listOf, sweptAndAppendedIn, pushedTo, removedFrom, firstIn, entryOf, forgotten, Within};
 
 // How many places of each bucket's table are filled.
 pub struct Lengths {
     pub small: usize,
     pub medium: usize,
     pub large: usize,
-}
-
-// Whether a bucket's list has room for one more entry.
-fn has_room(small: &[u32], medium: &[u32], large: &[u32], lengths: Lengths, bucket: Bucket) -> bool
-    ensures { λ r. ⌜ r ≡ hasRoom (listOf bucket (lists lengths (now (small .entry)) (now (medium .entry)) (now (large .entry)))) ⌝ }
-{
-    match bucket {
-        Bucket::Small => lengths.small < small.len(),
-        Bucket::Medium => lengths.medium < medium.len(),
-        Bucket::Large => lengths.large < large.len(),
-    }
-}
-
-// Appends v to a bucket's list, which has room.
-fn append_to(
-    small: &mut [u32],
-    medium: &mut [u32],
-    large: &mut [u32],
-    lengths: Lengths,
-    bucket: Bucket,
-    v: u32,
-) -> Lengths
-    requires { ⌜ hasRoom (listOf bucket (lists lengths (now small) (now medium) (now large))) ≡ true ⌝ }
-    ensures { λ r. ⌜ lists r (now (small .exit)) (now (medium .exit)) (now (large .exit)) ≡ appendedIn v bucket (lists lengths (now (small .entry)) (now (medium .entry)) (now (large .entry))) ⌝ }
-{
-    let mut after = lengths;
-    match bucket {
-        Bucket::Small => {
-            after.small = lists::append(small, lengths.small, v);
-        }
-        Bucket::Medium => {
-            after.medium = lists::append(medium, lengths.medium, v);
-        }
-        Bucket::Large => {
-            after.large = lists::append(large, lengths.large, v);
-        }
-    }
-    after
 }
 
 // Sweeps a bucket's list, and appends v.
@@ -93,10 +54,28 @@ pub fn push_to(
     requires { ⌜ Pushable (now words) v (listOf bucket (lists lengths (now small) (now medium) (now large))) ⌝ }
     ensures { λ r. ⌜ lists r (now (small .exit)) (now (medium .exit)) (now (large .exit)) ≡ pushedTo (now (words .entry)) v bucket (lists lengths (now (small .entry)) (now (medium .entry)) (now (large .entry))) ⌝ }
 {
-    if has_room(small, medium, large, lengths, bucket) {
-        return append_to(small, medium, large, lengths, bucket, v);
+    let mut after = lengths;
+    match bucket {
+        Bucket::Small => {
+            if lengths.small >= small.len() {
+                return sweep_and_append_to(words, small, medium, large, lengths, bucket, v);
+            }
+            after.small = lists::append(small, lengths.small, v);
+        }
+        Bucket::Medium => {
+            if lengths.medium >= medium.len() {
+                return sweep_and_append_to(words, small, medium, large, lengths, bucket, v);
+            }
+            after.medium = lists::append(medium, lengths.medium, v);
+        }
+        Bucket::Large => {
+            if lengths.large >= large.len() {
+                return sweep_and_append_to(words, small, medium, large, lengths, bucket, v);
+            }
+            after.large = lists::append(large, lengths.large, v);
+        }
     }
-    sweep_and_append_to(words, small, medium, large, lengths, bucket, v)
+    after
 }
 
 // Takes entry k of a bucket's list out.

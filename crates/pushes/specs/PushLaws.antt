@@ -7,7 +7,7 @@ use Prim.Native.Nat.{ℕ, _≤_, _<_}
 use native.Mathlib.Omega.{arith}
 use lib.Dec.{ltb}
 use lib.ListN.{length}
-use borrow.Author.Tests.{lt-ltb, ltb-true, ltb-false}
+use borrow.Author.Tests.{lt-ltb, le-ltb, ltb-true, ltb-false}
 use Rattle.geometry.specs.Choice.{pick, pick-elim}
 use Rattle.slots.specs.Slots.{slot}
 use Rattle.table.specs.Table.{HasSlot}
@@ -32,17 +32,13 @@ module _ (w : List ℕ) (v : ℕ) (b : Bag) where
   ready-elim P f g = pick-elim P (hasRoom b) b (swept w v b) (λ e. f (ltb-true _ _ e)) (λ e. g (ltb-false _ _ e))
 
 -- A list has room if its length is below its table's.
-pub room-asked : (n : ℕ) (t : List ℕ) → ltb n (length t) ≡ hasRoom (bag t n)
+pub room-given : (n : ℕ) (t : List ℕ) → n < length t → hasRoom (bag t n) ≡ true
 unfolding hasRoom
-room-asked n t = refl
+room-given n t h = lt-ltb _ _ h
 
-pub room-told : (b : Bag) → hasRoom b ≡ true → b .len < length (b .table)
+pub room-gone : (n : ℕ) (t : List ℕ) → length t ≤ n → hasRoom (bag t n) ≡ false
 unfolding hasRoom
-room-told b e = ltb-true _ _ e
-
-pub room-given : (b : Bag) → b .len < length (b .table) → hasRoom b ≡ true
-unfolding hasRoom
-room-given b h = lt-ltb _ _ h
+room-gone n t h = le-ltb _ _ h
 
 -- With room, a push appends; without, it sweeps and then appends.
 pub push-appends : (w : List ℕ) (v : ℕ) (b : Bag) → hasRoom b ≡ true → appended b v ≡ pushed w v b

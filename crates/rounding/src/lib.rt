@@ -18,6 +18,10 @@ pub fn adjust_size(alignment: u32, side: u32) -> Rounded
     requires { ⌜ (0 < alignment) × (alignment < 2 ^ 31) × (side < 2 ^ 31) ⌝ }
     ensures { λ r. ⌜ r ≡ rounded alignment side ⌝ }
 {
+    // Most sheets have no alignment: nothing is divided then.
+    if alignment == 1 {
+        return Rounded::To(side);
+    }
     let rem = side % alignment;
     if rem == 0 {
         return Rounded::To(side);

@@ -20,7 +20,7 @@ use Rattle.slots.specs.declared.Node.{Node}
 use Rattle.lists.specs.Lists.{Bag, bag, appended, Entries}
 use Rattle.pushes.specs.Pushes.{Pushable}
 use Rattle.pushes.specs.PushLaws.{room-given, push-appends}
-use Rattle.buckets.specs.FreeLists.{Lists, lists, listOf, withList, appendedIn, pushedTo}
+use Rattle.buckets.specs.FreeLists.{Lists, lists, listOf, withList, pushedTo}
 use Rattle.buckets.specs.declared.Lengths.{Lengths}
 use Rattle.steps.specs.State.{state}
 use Rattle.steps.specs.declared.Head.{Head}
@@ -47,10 +47,10 @@ module _ (w g a b c : List ℕ) (L : Lent (length w) (length g) (length a) (leng
       }
 
   -- The first push appends.
-  pub first-push : (u : List ℕ) (k : Bucket) → pushedTo u 0 k (noEntries a b c) ≡ appendedIn 0 k (noEntries a b c)
+  pub first-push : (u : List ℕ) (k : Bucket) → pushedTo u 0 k (noEntries a b c) ≡ withList k (appended (listOf k (noEntries a b c)) 0) (noEntries a b c)
   first-push u k =
       let q = list-empty k in
-      let room = room-given (listOf k (noEntries a b c)) (omega (arith, q .0, q .1, L .some)) in
+      let room = room-given (listOf k (noEntries a b c) .len) (listOf k (noEntries a b c) .table) (omega (arith, q .0, q .1, L .some)) in
       ap (λ (x : Bag). withList k x (noEntries a b c)) (sym (push-appends u 0 (listOf k (noEntries a b c)) room))
 
   -- The whole, from what its calls ensure.
