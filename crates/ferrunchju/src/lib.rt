@@ -134,7 +134,7 @@ pub extern "C" fn ferrunchju_allocate(
     let before = heads::head_of(head);
     let size = heads::size_of(width, height);
     let got = allocate::allocate(words, generations, small, medium, large, before, size);
-    heads::put_head(head, got.head);
+    heads::put_changes(head, got.head);
     heads::put_crop(out, got.id, got.rectangle);
     got.answer
 }
@@ -163,7 +163,7 @@ pub extern "C" fn ferrunchju_deallocate(
         before,
         AllocId(ticket),
     );
-    heads::put_head(head, freed.head);
+    heads::put_changes(head, freed.head);
     freed.answer
 }
 

@@ -11,7 +11,7 @@ use Rattle.geometry.specs.declared.Size.{Size}
 use Rattle.slots.specs.declared.AllocIndex.{AllocIndex}
 use Rattle.buckets.specs.declared.Lengths.{Lengths}
 use Rattle.steps.specs.declared.Head.{Head}
-use Rattle.heads.specs.Words.{sizeOf, optionsOf, signedOf, sizeAt, headAt, ShortLists}
+use Rattle.heads.specs.Words.{sizeOf, optionsOf, signedOf, sizeAt, headAt, withChanges, ShortLists}
 use Rattle.heads.specs.SignedLaws.{back, signed-read, read-back}
 
 -- A size and options made of numbers that are read back as they arrived.
@@ -41,6 +41,13 @@ pub head-again : {h : Head} {a b c d e f i j k : ℕ}
     → headAt (a ∷ b ∷ c ∷ d ∷ e ∷ f ∷ h .root .0 ∷ h .spare .0 ∷ h .count ∷ i ∷ j ∷ k ∷ []) ≡ h
 unfolding headAt
 head-again p q r s t u x y z = rw (word-holds p, word-holds q, word-holds r, word-holds s, word-holds t, word-holds u, x, y, z)
+
+-- Seven words of one head and five of another.
+pub changes-again : (l : List ℕ) (h : Head) {i j k : ℕ} → i ≡ h .lengths .small → j ≡ h .lengths .medium → k ≡ h .lengths .large
+    → headAt (getD l 0 0 ∷ getD l 1 0 ∷ getD l 2 0 ∷ getD l 3 0 ∷ getD l 4 0 ∷ getD l 5 0 ∷ getD l 6 0 ∷ h .spare .0 ∷ h .count ∷ i ∷ j ∷ k ∷ [])
+    ≡ withChanges (headAt l) h
+unfolding headAt
+changes-again l h x y z = rw (x, y, z)
 
 -- A length that was read from a word.
 abbrev pub LengthOf : ℕ → ℕ → Type 0

@@ -40,6 +40,10 @@ unfoldable pub headAt : List ℕ → Head
 headAt l =
     record { sheet = sizeAt 0 l; options = optionsAt l; root = slot (getD l 6 0); spare = slot (getD l 7 0); count = getD l 8 0; lengths = lengthsAt l }
 
+-- A head with the spare-chain head, the slot count and the list lengths of another.
+abbrev pub withChanges : Head → Head → Head
+withChanges h k = record { sheet = h .sheet; options = h .options; root = h .root; spare = k .spare; count = k .count; lengths = k .lengths }
+
 -- The ticket of a number; a ticket in the first word, and a rectangle from word k on.
 abbrev pub ticketOf : ℕ → AllocId
 ticketOf n = record { 0 = n }

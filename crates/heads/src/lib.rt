@@ -9,7 +9,7 @@ use tickets::AllocId;
 ghost use mathlib.Core.Path.{_≡_};
 ghost use Prim.Native.Nat.{_≤_, _<_, _^_};
 ghost use lib.Dec.{eqb};
-ghost use Rattle.heads.specs.Words.{sizeOf, optionsOf, signedOf, sizeAt, headAt, ticketAt, rectAt, ShortLists};
+ghost use Rattle.heads.specs.Words.{sizeOf, optionsOf, signedOf, sizeAt, headAt, withChanges, ticketAt, rectAt, ShortLists};
 
 // The signed number whose bits a word has.
 fn signed_of(word: u32) -> i32
@@ -123,6 +123,30 @@ pub fn put_head(words: &mut [u32; 12], head: Head)
         word_of_length(lengths.small),
         word_of_length(lengths.medium),
         word_of_length(lengths.large),
+    ];
+}
+
+// Writes what allocate and deallocate change of a head, the spare-chain head, the slot count and the list lengths, over twelve words; the
+// others stay.
+pub fn put_changes(words: &mut [u32; 12], head: Head)
+    requires { ⌜ ShortLists head ⌝ }
+    ensures { λ _. ⌜ headAt (now (words .exit)) ≡ withChanges (headAt (now (words .entry))) head ⌝ }
+{
+    let chain = head.spare;
+    let left = head.lengths;
+    *words = [
+        words[0],
+        words[1],
+        words[2],
+        words[3],
+        words[4],
+        words[5],
+        words[6],
+        chain.0,
+        head.count,
+        word_of_length(left.small),
+        word_of_length(left.medium),
+        word_of_length(left.large),
     ];
 }
 

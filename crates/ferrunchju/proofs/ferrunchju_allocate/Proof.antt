@@ -1,7 +1,7 @@
--- `ferrunchju::ferrunchju_allocate` meets its contract: what the call ensures, of the head that the words held and the one that was written over them.
+-- `ferrunchju::ferrunchju_allocate` meets its contract: what the call ensures, of the head that the words held and what was changed of it and written over them.
 -- Assumes nothing.
 use Rattle.heads.specs.WordLaws.{size-read}
-use Rattle.ferrunchju.specs.HeadLaws.{allocate-short}
+use Rattle.ferrunchju.specs.HeadLaws.{allocate-short, allocate-rest}
 use borrow.Author.Needs.{needs}
 use Rattle.ferrunchju.proofs.ferrunchju_allocate.Statement.{statement}
 use Rattle.ferrunchju.proofs.ferrunchju_allocate.Tie as tie
@@ -16,8 +16,8 @@ allocate-requires : tie.Need-allocate-requires
 allocate-requires c κs = search needs
 
 -- The head as it was read has short lists, and so has the one that is left; that the second is written, `returns` says.
-put-head-requires : tie.Need-put-head-requires
-put-head-requires c κs =
+put-changes-requires : tie.Need-put-changes-requires
+put-changes-requires c κs =
     let read = c .before .before .before .before .before .before .before .before .before .before .before .before .before .before .before .before .before .before .head-of .ensures .1 in
     let left = allocate-short _ (c .before .before .before .before .before .before .before .before .before .before .before .allocate .ensures) read in
     search (read, left)
@@ -47,8 +47,9 @@ returns c =
     let args = size .before .before .before .before .before .before .before .before .args in
     let fits = size .before .before .before .before .before .before .before .before .fits in
     let size-is = size-read {w = args .width} {h = args .height} (size .size-of .ensures) (fits .width .sfits) (fits .height .sfits) in
-    rw (c .put-crop .ensures .0, c .put-crop .ensures .1, c .before .before .put-head .ensures, ← size .before .head-of .ensures .0)
-    (rw size-is at (call .allocate .ensures))
+    let told = call .allocate .ensures in
+    rw (c .put-crop .ensures .0, c .put-crop .ensures .1, c .before .before .put-changes .ensures, ← size .before .head-of .ensures .0, allocate-rest _ told)
+    (rw size-is at told)
 
 pub ferrunchju-allocate-spec : {M : Type 1} → statement M
 ferrunchju-allocate-spec =
@@ -57,7 +58,7 @@ ferrunchju-allocate-spec =
     head-of-requires
     size-of-requires
     allocate-requires
-    put-head-requires
+    put-changes-requires
     put-crop-requires
     same-length
     same-length-2

@@ -1,6 +1,6 @@
--- `ferrunchju::ferrunchju_deallocate` meets its contract: what the call ensures, of the head that the words held and the one that was written over them.
+-- `ferrunchju::ferrunchju_deallocate` meets its contract: what the call ensures, of the head that the words held and what was changed of it and written over them.
 -- Assumes nothing.
-use Rattle.ferrunchju.specs.HeadLaws.{deallocate-short}
+use Rattle.ferrunchju.specs.HeadLaws.{deallocate-short, deallocate-rest}
 use borrow.Author.Needs.{needs}
 use Rattle.ferrunchju.proofs.ferrunchju_deallocate.Statement.{statement}
 use Rattle.ferrunchju.proofs.ferrunchju_deallocate.Tie as tie
@@ -11,8 +11,8 @@ head-of-requires c κs = search needs
 deallocate-requires : tie.Need-deallocate-requires
 deallocate-requires c κs = search needs
 
-put-head-requires : tie.Need-put-head-requires
-put-head-requires c κs = deallocate-short _ (c .before .before .before .before .before .before .before .before .before .deallocate .ensures) (c .before .before .before .before .before .before .before .before .before .before .before .before .before .before .head-of .ensures .1)
+put-changes-requires : tie.Need-put-changes-requires
+put-changes-requires c κs = deallocate-short _ (c .before .before .before .before .before .before .before .before .before .deallocate .ensures) (c .before .before .before .before .before .before .before .before .before .before .before .before .before .before .head-of .ensures .1)
 
 same-length : tie.Need-same-length
 same-length c = search needs
@@ -27,7 +27,9 @@ same-length-4 : tie.Need-same-length-4
 same-length-4 c = search needs
 
 returns : tie.Need-returns
-returns c = rw (c .put-head .ensures, ← c .before .before .before .before .before .before .before .before .before .before .before .before .before .before .before .head-of .ensures .0) (c .before .before .before .before .before .before .before .before .before .before .deallocate .ensures)
+returns c =
+    let call = c .before .before .before .before .before .before .before .before .before .before .deallocate .ensures in
+    rw (c .put-changes .ensures, ← c .before .before .before .before .before .before .before .before .before .before .before .before .before .before .before .head-of .ensures .0, deallocate-rest _ call) call
 
 pub ferrunchju-deallocate-spec : {M : Type 1} → statement M
 ferrunchju-deallocate-spec =
@@ -35,7 +37,7 @@ ferrunchju-deallocate-spec =
     (tie.spec
     head-of-requires
     deallocate-requires
-    put-head-requires
+    put-changes-requires
     same-length
     same-length-2
     same-length-3
