@@ -7,6 +7,8 @@ use geometry::Size;
 use slots::AllocIndex;
 use steps::Head;
 use tickets::AllocId;
+ghost use Prim.Native.Nat.{_*_, _≤_};
+ghost use lib.ListN.{length};
 
 // A head of no sheet.
 fn no_head() -> Head {
@@ -319,110 +321,56 @@ fn one(sheet: Size, options: AllocatorOptions, width: i32, height: i32) {
     show::tables(&words, &small, &medium, &large, head);
 }
 
-// On a sheet of side 10, with N = 1,
-fn in_1(width: i32, height: i32) {
-    let mut words = [7u32; 8];
-    let mut generations = [7u8; 1];
-    let mut small = [7u32; 1];
-    let mut medium = [7u32; 1];
-    let mut large = [7u32; 1];
-    io::write_all(1, b"N = 1: ");
-    let head = request_on(
-        &mut words,
-        &mut generations,
-        &mut small,
-        &mut medium,
-        &mut large,
+// One request on a sheet of side 10, with the first n slots and entries of the tables.
+fn request_in(
+    words: &mut [u32],
+    generations: &mut [u8],
+    small: &mut [u32],
+    medium: &mut [u32],
+    large: &mut [u32],
+    n: usize,
+    width: i32,
+    height: i32,
+) -> Head
+    requires { ⌜ n * 8 ≤ length (now words) ⌝ }
+    requires { ⌜ n ≤ length (now generations) ⌝ }
+    requires { ⌜ n ≤ length (now small) ⌝ }
+    requires { ⌜ n ≤ length (now medium) ⌝ }
+    requires { ⌜ n ≤ length (now large) ⌝ }
+{
+    let ends = n * 8;
+    request_on(
+        &mut words[..ends],
+        &mut generations[..n],
+        &mut small[..n],
+        &mut medium[..n],
+        &mut large[..n],
         square(10),
         aligned(1, 1),
         width,
         height,
-    );
-    show::tables(&words, &small, &medium, &large, head);
+    )
 }
 
-// with N = 2,
-fn in_2(width: i32, height: i32) {
-    let mut words = [7u32; 16];
-    let mut generations = [7u8; 2];
-    let mut small = [7u32; 2];
-    let mut medium = [7u32; 2];
-    let mut large = [7u32; 2];
-    io::write_all(1, b"N = 2: ");
-    let head = request_on(
-        &mut words,
-        &mut generations,
-        &mut small,
-        &mut medium,
-        &mut large,
-        square(10),
-        aligned(1, 1),
-        width,
-        height,
-    );
-    show::tables(&words, &small, &medium, &large, head);
-}
-
-// with N = 3,
-fn in_3(width: i32, height: i32) {
-    let mut words = [7u32; 24];
-    let mut generations = [7u8; 3];
-    let mut small = [7u32; 3];
-    let mut medium = [7u32; 3];
-    let mut large = [7u32; 3];
-    io::write_all(1, b"N = 3: ");
-    let head = request_on(
-        &mut words,
-        &mut generations,
-        &mut small,
-        &mut medium,
-        &mut large,
-        square(10),
-        aligned(1, 1),
-        width,
-        height,
-    );
-    show::tables(&words, &small, &medium, &large, head);
-}
-
-// with N = 4,
-fn in_4(width: i32, height: i32) {
-    let mut words = [7u32; 32];
-    let mut generations = [7u8; 4];
-    let mut small = [7u32; 4];
-    let mut medium = [7u32; 4];
-    let mut large = [7u32; 4];
-    io::write_all(1, b"N = 4: ");
-    let head = request_on(
-        &mut words,
-        &mut generations,
-        &mut small,
-        &mut medium,
-        &mut large,
-        square(10),
-        aligned(1, 1),
-        width,
-        height,
-    );
-    show::tables(&words, &small, &medium, &large, head);
-}
-
-// and with N = 5.
-fn in_5(width: i32, height: i32) {
+// The same with N = n, which is at most 5.
+fn with_slots(n: usize, width: i32, height: i32)
+    requires { ⌜ n ≤ 5 ⌝ }
+{
     let mut words = [7u32; 40];
     let mut generations = [7u8; 5];
     let mut small = [7u32; 5];
     let mut medium = [7u32; 5];
     let mut large = [7u32; 5];
-    io::write_all(1, b"N = 5: ");
-    let head = request_on(
+    io::write_all(1, b"N = ");
+    io::print_decimal(1, n as u64);
+    io::write_all(1, b": ");
+    let head = request_in(
         &mut words,
         &mut generations,
         &mut small,
         &mut medium,
         &mut large,
-        square(10),
-        aligned(1, 1),
+        n,
         width,
         height,
     );
@@ -431,15 +379,15 @@ fn in_5(width: i32, height: i32) {
 
 // Each needs one slot more than the one before.
 fn tight() {
-    in_1(10, 10);
-    in_1(10, 4);
-    in_2(10, 4);
-    in_2(5, 10);
-    in_3(5, 10);
-    in_3(4, 4);
-    in_4(4, 4);
-    in_4(3, 6);
-    in_5(3, 6);
+    with_slots(1, 10, 10);
+    with_slots(1, 10, 4);
+    with_slots(2, 10, 4);
+    with_slots(2, 5, 10);
+    with_slots(3, 5, 10);
+    with_slots(3, 4, 4);
+    with_slots(4, 4, 4);
+    with_slots(4, 3, 6);
+    with_slots(5, 3, 6);
 }
 
 // Requests that are rounded, too large, without space, and not positive.
