@@ -17,7 +17,7 @@ use Rattle.choices.specs.Choices.{chosenOf, ScanAnswer, scanAnswer, scan
 
 -- The scan of a list that is ready ends with its best candidate in the table.
 pub scan-best : (w : List ℕ) (q : Query) (l : Bag) (o : Scanned) → o ≡ scanAll w q (l .table) (l .len)
-    → Ready w (scanned (first (l .len)) (l .table)) → BestWithin (o .scan .best) (o .scan .place) (o .table)
+    → Ready w l → BestWithin (o .scan .best) (o .scan .place) (o .table)
 scan-best w q l o e r = rw e (scanning-best w q (scanAll w q (l .table) (l .len)) (scan-scans w q (l .table) (l .len) (r .within)))
 
 -- The scan of a bucket's list, by the scan and the answer read off it.
@@ -38,7 +38,7 @@ pub one-thins : (w : List ℕ) (q : Query) (b : Bucket) (l : Lists) → Searchab
 unfolding searchOne scanBucket
 one-thins w q b l r =
     withList-elim (λ c a. Thinned w (listOf c l) a) b (scanBucket w q b (listOf b l) .list) l
-    (looking-thins w q (listOf b l .len) (scanned (first (listOf b l .len)) (listOf b l .table)) (r b .within)) (λ c. thinned-itself)
+    (looking-thins w q (listOf b l .len) (scanned (first q (listOf b l .len)) (listOf b l .table)) (r b .within)) (λ c. thinned-itself)
 
 -- Thinned lists are as ready to be searched as they were.
 pub searchable-thinned : {w : List ℕ} {l m : Lists} → ((c : Bucket) → Thinned w (listOf c l) (listOf c m)) → Searchable w l → Searchable w m

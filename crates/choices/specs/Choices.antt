@@ -9,7 +9,7 @@ use Rattle.geometry.specs.declared.Bucket.the-variants.{Small, Medium, Large}
 use Rattle.slots.specs.Slots.{slot}
 use Rattle.lists.specs.Lists.{Bag, bag}
 use Rattle.buckets.specs.FreeLists.{Lists, listOf, withList}
-use Rattle.fits.specs.Scans.{scanned, first, scanAll, Ready}
+use Rattle.fits.specs.Scans.{scanAll, Ready}
 use Rattle.fits.specs.declared.Best.{Best}
 use Rattle.fits.specs.declared.Best.the-variants as best
 use Rattle.fits.specs.declared.Query.{Query}
@@ -64,4 +64,4 @@ settled Nothing b = isLarge b
 
 -- What a search asks of the lists: each is ready to be scanned.
 abbrev pub Searchable : List ℕ → Lists → Type 0
-Searchable w l = (b : Bucket) → Ready w (scanned (first (listOf b l .len)) (listOf b l .table))
+Searchable w l = (b : Bucket) → Ready w (listOf b l)

@@ -7,7 +7,7 @@ use slots::AllocIndex;
 ghost use mathlib.Core.Path.{_≡_};
 ghost use Rattle.lists.specs.Lists.{bag};
 ghost use Rattle.buckets.specs.FreeLists.{lists};
-ghost use Rattle.fits.specs.Scans.{scanned, first, BestWithin, Ready};
+ghost use Rattle.fits.specs.Scans.{BestWithin, Ready};
 ghost use Rattle.choices.specs.Choices.{chosenOf, scanAnswer, scanBucket, searched, searchOne, isLarge, higher, settled, Searchable};
 
 // The slot that was chosen, with its bucket and its place in that bucket's list.
@@ -40,7 +40,7 @@ struct Answer {
 }
 
 fn scan_bucket(words: &[u32], list: &mut [u32], len: usize, bucket: Bucket, q: Query) -> Answer
-    requires { ⌜ Ready (now words) (scanned (first len) (now list)) ⌝ }
+    requires { ⌜ Ready (now words) (bag (now list) len) ⌝ }
     ensures { λ r. ⌜ scanAnswer (r .chosen) (bag (now (list .exit)) (r .len)) ≡ scanBucket (now (words .entry)) q bucket (bag (now (list .entry)) len) ⌝ }
 {
     let s = fits::scan_list(words, list, len, q);

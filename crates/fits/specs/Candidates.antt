@@ -56,7 +56,7 @@ look-scans w q o h s =
 -- What the scan of a whole list knows at its end.
 pub scan-scans : (w : List ℕ) (q : Query) (t : List ℕ) (len : ℕ) → len ≤ length t → Scanning w q (scanAll w q t len)
 scan-scans w q t len h =
-    looking-keeps w q (Scanning w q) (look-scans w q) len (scanned (first len) t)
+    looking-keeps w q (Scanning w q) (look-scans w q) len (scanned (first q len) t)
     (record { within = h; placed = omega arith; so-far = λ k l s. omega arith })
 
 -- The best candidate's place is in the table.

@@ -8,8 +8,8 @@ use Prim.Native.Nat.{ℕ, zero, suc, _+_, _-_, _<_, _≤_}
 use native.Mathlib.Omega.{arith}
 use lib.ListN.{length}
 use lib.Dec.{eqb, ltb, leb}
-use borrow.Author.Tests.{leb-true, leb-false, le-leb, lt-leb, ltb-true, ltb-false, le-ltb, lt-ltb}
-use Rattle.geometry.specs.Choice.{pick-elim}
+use borrow.Author.Tests.{leb-true, leb-false, le-leb, lt-leb, ltb-true, ltb-false, le-ltb, lt-ltb, ne-eqb}
+use Rattle.geometry.specs.Choice.{pick, pick-elim}
 use Rattle.geometry.specs.Rectangles.{widthOf, heightOf}
 use Rattle.geometry.specs.declared.Rectangle.{Rectangle}
 use Rattle.slots.specs.Slots.{slot, sameKind}
@@ -20,9 +20,9 @@ use Rattle.slots.specs.declared.NodeKind.the-variants.{Free}
 use Rattle.lists.specs.Lists.{Bag, bag, removed, freeEntry}
 use Rattle.fits.specs.declared.Scan.{Scan}
 use Rattle.fits.specs.declared.Best.{Best}
-use Rattle.fits.specs.declared.Best.the-variants.{Nothing}
+use Rattle.fits.specs.declared.Best.the-variants.{Found, Nothing}
 use Rattle.fits.specs.declared.Query.{Query}
-use Rattle.fits.specs.Scans.{lesser, better, scoreOf, shift, shiftedScore, passed, kept, ended, scored, weighed, Scanned, scanned, entryAt, dropped, look, looking, Lookable, Ready}
+use Rattle.fits.specs.Scans.{lesser, better, scoreOf, shift, shiftedScore, passed, kept, ended, scored, weighed, beats, opening, Open, Scanned, scanned, entryAt, dropped, look, looking, Lookable, Ready}
 use Rattle.fits.specs.Suits.{Suits}
 use Rattle.fits.specs.Thinned.{Thinned, thinned-itself, thinned-twice, each-thinned, dead-removed}
 
@@ -57,6 +57,27 @@ weighed-cases P s r q pass end keep =
     (λ z. pick-elim P (better (s .best) (s .score) (scoreOf r q) (q .worst)) _ _ (λ t. keep a b)
     (λ t. pass (λ c d. better-than-none (s .best) (s .score) (scoreOf r q) (q .worst) t)))))
 
+-- A score that isn't exact is better exactly where it is held against the best so far and wins, since any beats what a scan opens with.
+open-better : (b : Best) (score new : ℕ) (worst : Bool) → (b ≡ Nothing → score ≡ opening worst) → new < shift → (new ≡ 0 → ⊥)
+    → better b score new worst ≡ pick worst (ltb score new) (ltb new score)
+unfolding better opening
+open-better Found score new true o l d = refl
+open-better Found score new false o l d = refl
+open-better Nothing score new true o l d = rw (o refl, lt-ltb 0 new (omega (arith, d)))
+open-better Nothing score new false o l d = rw (o refl, lt-ltb new shift l)
+
+-- What beats the best fits.
+pub beats-enough : (score n : ℕ) (worst : Bool) → beats score n worst ≡ true → shift ≤ n
+unfolding beats
+beats-enough score n worst =
+    pick-elim (λ (b : Bool). b ≡ true → shift ≤ n) (ltb n shift) _ _ (λ t e. let z : _≡_ {A = ℕ} 0 1 = cc in omega arith) (λ t e. ltb-false n shift t)
+
+-- The lesser of two isn't above the first.
+pub lesser-first : (a b n : ℕ) → n ≡ lesser a b → n ≤ a
+unfolding lesser
+lesser-first a b n e =
+    rw e (pick-elim (λ (n : ℕ). n ≤ a) (leb a b) _ _ (λ t. omega arith) (λ t. let z = leb-false a b t in omega arith))
+
 -- Two spare sides, shifted up: where the lesser is below the shift one side is too short, and else both are enough.
 lesser-short : (w h a b : ℕ) → lesser (w + shift - a) (h + shift - b) < shift → a ≤ w → h < b
 unfolding lesser
@@ -73,18 +94,42 @@ lesser-enough w h a b =
 
 -- One test of the shifted score asks of both sides.
 module _ (s : Scan) (r : Rectangle) (q : Query) (n : ℕ) (e : n ≡ shiftedScore r q) where
-  pub short-passes : n < shift → weighed s r q ≡ passed s
+  short-passes : n < shift → weighed s r q ≡ passed s
   unfolding weighed shiftedScore
   short-passes h =
       let f = lesser-short (widthOf r) (heightOf r) (q .width) (q .height) (rw e at h) in
       pick-elim (λ (t : Scan). t ≡ passed s) (ltb (widthOf r) (q .width)) _ _ (λ t. refl)
       (λ t. rw (lt-ltb (heightOf r) (q .height) (f (ltb-false (widthOf r) (q .width) t))))
 
-  pub enough-scores : shift ≤ n → weighed s r q ≡ scored s q (n - shift)
+  enough-scores : shift ≤ n → weighed s r q ≡ scored s q (n - shift)
   unfolding weighed shiftedScore
   enough-scores h =
       let f = lesser-enough (widthOf r) (heightOf r) (q .width) (q .height) (rw e at h) in
       rw (le-ltb (widthOf r) (q .width) (f .0), le-ltb (heightOf r) (q .height) (f .1), e, f .2)
+
+  -- A score of nothing ends the scan.
+  pub exact-ends : n ≡ shift → ended s ≡ weighed s r q
+  exact-ends h = rw (enough-scores (omega arith), h)
+
+  -- Any other is kept exactly where it beats the best so far.
+  module _ (o : Open s q) (l : n < 8589934592) (d : n ≡ shift → ⊥) where
+    weighs : weighed s r q ≡ pick (beats (s .score) n (q .worst)) (kept s (n - shift)) (passed s)
+    unfolding beats
+    weighs =
+        pick-elim (λ (b : Bool). weighed s r q ≡ pick b (kept s (n - shift)) (passed s)) (ltb n shift) _ _ (λ t. short-passes (ltb-true n shift t))
+        (λ t.
+        let m = ltb-false n shift t in
+        rw (
+          enough-scores m,
+          ne-eqb (n - shift) 0 (λ z. d (omega arith)),
+          open-better (s .best) (s .score) (n - shift) (q .worst) o (omega arith) (λ z. d (omega arith)),
+        ))
+
+    pub beaten-kept : beats (s .score) n (q .worst) ≡ true → kept s (n - shift) ≡ weighed s r q
+    beaten-kept t = rw (weighs, t)
+
+    pub unbeaten-passed : beats (s .score) n (q .worst) ≡ false → passed s ≡ weighed s r q
+    unbeaten-passed t = rw (weighs, t)
 
 -- The corners of a Free entry are in order.
 pub entry-corners : (w : List ℕ) (x : ℕ) (n : Node) → n ≡ nodeAt w (slot x) → Lookable w x → sameKind (n .kind) Free ≡ true
@@ -103,7 +148,7 @@ module _ (w : List ℕ) (q : Query) (o : Scanned) (n : Node) (en : n ≡ nodeAt 
   look-dead b f e = rw (← en, f, e)
 
 -- A thinned list is as ready to be scanned as it was.
-pub ready-thinned : {w : List ℕ} {o p : Scanned} → Thinned w (listIn o) (listIn p) → Ready w o → Ready w p
+pub ready-thinned : {w : List ℕ} {l m : Bag} → Thinned w l m → Ready w l → Ready w m
 ready-thinned {w} t r = record { within = omega (arith, t .table); entries = each-thinned (Lookable w) t (r .entries) }
 
 -- The outcome p of a look at a place that is left.
@@ -136,8 +181,14 @@ module _ (w : List ℕ) (q : Query) (o p : Scanned) (h : o .scan .at < o .scan .
       (dead-removed w (listIn o) (o .scan .at) h b)
 
   -- A look leaves the list ready to be scanned.
-  pub look-ready : Ready w o → Ready w p
+  pub look-ready : Ready w (listIn o) → Ready w (listIn p)
   look-ready r = ready-thinned (look-thins (r .within)) r
+
+  -- A look that leaves no candidate leaves the score that the scan opened with.
+  pub look-open : Open (o .scan) q → Open (p .scan) q
+  look-open f =
+      look-cases (λ (p : Scanned). Open (p .scan) q) (λ n. f) (λ z e. let z : _≡_ {A = ℕ} 0 1 = cc in omega arith)
+      (λ z k e. let z : _≡_ {A = ℕ} 0 1 = cc in omega arith) (λ d. f)
 
 -- Looks past the last place change nothing.
 pub looking-past : (w : List ℕ) (q : Query) (k : ℕ) (o : Scanned) → o .scan .len ≤ o .scan .at → looking w q k o ≡ o

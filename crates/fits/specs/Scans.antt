@@ -58,6 +58,18 @@ shift = 4294967296
 unfoldable pub shiftedScore : Rectangle → Query → ℕ
 shiftedScore r q = lesser (widthOf r + shift - q .width) (heightOf r + shift - q .height)
 
+-- As the code asks whether a rectangle is kept, where its fit isn't exact: by one test of the shifted score, whether there is a candidate or not (`weighs`).
+unfoldable pub beats : ℕ → ℕ → Bool → Bool
+beats score n worst = pick (ltb n shift) false (pick worst (ltb score (n - shift)) (ltb (n - shift) score))
+
+-- The score of a scan with no candidate yet: any that isn't exact beats it.
+unfoldable pub opening : Bool → ℕ
+opening true = 0
+opening false = shift
+
+abbrev pub Open : Scan → Query → Type 0
+Open s q = s .best ≡ Nothing → s .score ≡ opening (q .worst)
+
 -- A scan with its table.
 pub record Scanned : Type 0 where
   pub scan : Scan
@@ -86,12 +98,12 @@ looking w q zero o = o
 looking w q (suc k) o = pick (ltb (o .scan .at) (o .scan .len)) (looking w q k (look w q o)) o
 
 -- A scan begins at place 0, with no candidate.
-abbrev pub first : ℕ → Scan
-first len = record { len = len; at = 0; best = Nothing; place = 0; score = 0 }
+abbrev pub first : Query → ℕ → Scan
+first q len = record { len = len; at = 0; best = Nothing; place = 0; score = opening (q .worst) }
 
 -- The whole scan of a list. As many looks as it has entries are enough (`looking-enough`).
 abbrev pub scanAll : List ℕ → Query → List ℕ → ℕ → Scanned
-scanAll w q t len = looking w q len (scanned (first len) t)
+scanAll w q t len = looking w q len (scanned (first q len) t)
 
 -- What a scan asks of an entry: a slot of the table, and corners in order where it is Free.
 pub record Lookable (w : List ℕ) (x : ℕ) : Type 0 where
@@ -99,9 +111,9 @@ pub record Lookable (w : List ℕ) (x : ℕ) : Type 0 where
   pub wide : nodeAt w (slot x) .kind ≡ Free → nodeAt w (slot x) .rect .x0 ≤ nodeAt w (slot x) .rect .x1
   pub tall : nodeAt w (slot x) .kind ≡ Free → nodeAt w (slot x) .rect .y0 ≤ nodeAt w (slot x) .rect .y1
 
-pub record Ready (w : List ℕ) (o : Scanned) : Type 0 where
-  pub within : o .scan .len ≤ length (o .table)
-  pub entries : Each (Lookable w) (bag (o .table) (o .scan .len))
+pub record Ready (w : List ℕ) (l : Bag) : Type 0 where
+  pub within : l .len ≤ length (l .table)
+  pub entries : Each (Lookable w) l
 
 -- The best candidate's place is in the table.
 abbrev pub BestWithin : Best → ℕ → List ℕ → Type 0

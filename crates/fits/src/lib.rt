@@ -4,7 +4,8 @@ use slots::AllocIndex;
 use slots::NodeKind;
 ghost use mathlib.Core.Path.{_≡_};
 ghost use Prim.Native.Nat.{_≤_, _<_};
-ghost use Rattle.fits.specs.Scans.{lesser, better, shiftedScore, weighed, scanned, first, look, scanAll, Ready};
+ghost use Rattle.lists.specs.Lists.{bag};
+ghost use Rattle.fits.specs.Scans.{lesser, opening, shiftedScore, beats, weighed, Open, scanned, look, scanAll, Ready};
 
 // What is looked for: a rectangle at least this wide and tall. The greatest lesser spare side wins where worst is set, else the least.
 pub struct Query {
@@ -37,28 +38,13 @@ fn lesser(a: u64, b: u64) -> u64
     b
 }
 
-// Whether a score beats the best so far: the first candidate does, and of equals the first stays.
-fn is_better(best: Best, score: u64, new: u64, worst: bool) -> bool
-    ensures { λ r. ⌜ r ≡ better best score new worst ⌝ }
-{
-    match best {
-        Best::Found => {
-            if worst {
-                return score < new;
-            }
-            new < score
-        }
-        Best::Nothing => true,
-    }
-}
-
 // One more than the greatest u32.
 const SHIFT: u64 = 4294967296;
 
 // The score, shifted up. It stays below the shift where a side is too short, so that one test asks of both sides.
 fn shifted_score(r: Rectangle, q: Query) -> u64
     requires { ⌜ (r .x0 ≤ r .x1) × (r .y0 ≤ r .y1) ⌝ }
-    ensures { λ n. ⌜ n ≡ shiftedScore r q ⌝ }
+    ensures { λ n. ⌜ (n ≡ shiftedScore r q) × (n < 8589934592) ⌝ }
 {
     let wide = (r.x1 - r.x0) as u64;
     let tall = (r.y1 - r.y0) as u64;
@@ -68,28 +54,40 @@ fn shifted_score(r: Rectangle, q: Query) -> u64
     )
 }
 
+// The score of a scan with no candidate yet, which any candidate beats.
+fn opening(worst: bool) -> u64
+    ensures { λ n. ⌜ n ≡ opening worst ⌝ }
+{
+    if worst {
+        return 0;
+    }
+    SHIFT
+}
+
+// Whether a shifted score fits and beats the best so far. Of equals the first stays.
+fn beats(score: u64, shifted: u64, worst: bool) -> bool
+    ensures { λ r. ⌜ r ≡ beats score shifted worst ⌝ }
+{
+    if shifted < SHIFT {
+        return false;
+    }
+    let new = shifted - SHIFT;
+    if worst {
+        return score < new;
+    }
+    new < score
+}
+
 // What the entry of a Free rectangle does to the scan. A fit that is exact on one axis ends it.
 fn weigh(s: Scan, r: Rectangle, q: Query) -> Scan
-    requires { ⌜ (r .x0 ≤ r .x1) × (r .y0 ≤ r .y1) × (s .at < s .len) ⌝ }
+    requires { ⌜ (r .x0 ≤ r .x1) × (r .y0 ≤ r .y1) × (s .at < s .len) × Open s q ⌝ }
     ensures { λ t. ⌜ t ≡ weighed s r q ⌝ }
 {
     let at = s.at;
     let next = at + 1;
     let len = s.len;
-    let best = s.best;
-    let place = s.place;
     let shifted = shifted_score(r, q);
-    if shifted < SHIFT {
-        return Scan {
-            len: len,
-            at: next,
-            best: best,
-            place: place,
-            score: s.score,
-        };
-    }
-    let score = shifted - SHIFT;
-    if score == 0 {
+    if shifted == SHIFT {
         return Scan {
             len: len,
             at: len,
@@ -98,27 +96,28 @@ fn weigh(s: Scan, r: Rectangle, q: Query) -> Scan
             score: 0,
         };
     }
-    if is_better(best, s.score, score, q.worst) {
+    if beats(s.score, shifted, q.worst) {
         return Scan {
             len: len,
             at: next,
             best: Best::Found,
             place: at,
-            score: score,
+            score: shifted - SHIFT,
         };
     }
+    let best = s.best;
     Scan {
         len: len,
         at: next,
         best: best,
-        place: place,
+        place: s.place,
         score: s.score,
     }
 }
 
 // Looks at the entry at the scan's place. One whose slot isn't Free is swap-removed, and the place is looked at again.
 fn look_at(words: &[u32], list: &mut [u32], s: Scan, q: Query) -> Scan
-    requires { ⌜ Ready (now words) (scanned s (now list)) × (s .at < s .len) ⌝ }
+    requires { ⌜ Ready (now words) (bag (now list) (s .len)) × (s .at < s .len) × Open s q ⌝ }
     ensures { λ r. ⌜ scanned r (now (list .exit)) ≡ look (now (words .entry)) q (scanned s (now (list .entry))) ⌝ }
 {
     let at = s.at;
@@ -143,7 +142,7 @@ fn look_at(words: &[u32], list: &mut [u32], s: Scan, q: Query) -> Scan
 
 // Scans one list.
 pub fn scan_list(words: &[u32], list: &mut [u32], len: usize, q: Query) -> Scan
-    requires { ⌜ Ready (now words) (scanned (first len) (now list)) ⌝ }
+    requires { ⌜ Ready (now words) (bag (now list) len) ⌝ }
     ensures { λ r. ⌜ scanned r (now (list .exit)) ≡ scanAll (now (words .entry)) q (now (list .entry)) len ⌝ }
 {
     let mut s = Scan {
@@ -151,7 +150,7 @@ pub fn scan_list(words: &[u32], list: &mut [u32], len: usize, q: Query) -> Scan
         at: 0,
         best: Best::Nothing,
         place: 0,
-        score: 0,
+        score: opening(q.worst),
     };
     while s.at < s.len {
         s = look_at(words, list, s, q);

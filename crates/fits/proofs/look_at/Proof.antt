@@ -23,7 +23,7 @@ weigh-requires c κs =
     let n = c .before .before .before in
     let p = n .before .before .before .before .pre in
     let r = entry-corners _ _ _ (n .node-at .ensures) (p .0 .entries _ (p .1)) (sym (c .before .before .same-kind .ensures) ∙ c .before .if1 .taken) in
-    (r .0, r .1, p .1)
+    (r .0, r .1, p .1, p .2)
 
 returns : tie.Need-returns
 returns c =

@@ -2,6 +2,7 @@
 -- Assumes nothing.
 use borrow.Author.Needs.{needs}
 use Rattle.fits.specs.Scans.{shiftedScore}
+use Rattle.fits.specs.ScanLaws.{lesser-first}
 use Rattle.fits.proofs.shifted_score.Statement.{statement}
 use Rattle.fits.proofs.shifted_score.Tie as tie
 
@@ -40,7 +41,7 @@ lesser-requires c κs = search needs
 
 returns : tie.Need-returns
 unfolding shiftedScore
-returns c = c .lesser .ensures
+returns c = (c .lesser .ensures, let l = lesser-first _ _ _ (c .lesser .ensures) in search (needs, l))
 
 pub shifted-score-spec : {M : Type 1} → statement M
 shifted-score-spec =

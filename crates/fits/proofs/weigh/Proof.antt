@@ -1,9 +1,8 @@
--- `weigh` takes the branches of `weighed`: one test for both sides, then by the score.
+-- `weigh` takes the branches of `weighed`: an exact fit, then one test for both sides and the score.
 -- Assumes nothing.
 use mathlib.Core.Path.{sym, _∙_}
 use borrow.Author.Needs.{needs}
-use borrow.Author.Tests.{eq-eqb, ne-eqb}
-use Rattle.fits.specs.ScanLaws.{short-passes, enough-scores}
+use Rattle.fits.specs.ScanLaws.{beats-enough, exact-ends, beaten-kept, unbeaten-passed}
 use Rattle.fits.proofs.weigh.Statement.{statement}
 use Rattle.fits.proofs.weigh.Tie as tie
 
@@ -14,36 +13,27 @@ shifted-score-requires : tie.Need-shifted-score-requires
 shifted-score-requires c κs = search needs
 
 returns : tie.Need-returns
-returns c = sym (short-passes _ _ _ _ (c .before .shifted-score .ensures) (c .if1 .taken))
+returns c = exact-ends _ _ _ _ (c .before .shifted-score .ensures .0) (c .if1 .taken)
+
+beats-requires : tie.Need-beats-requires
+beats-requires c κs = search needs
+
+sub-t13 : tie.Need-sub-t13
+sub-t13 c = beats-enough _ _ _ (sym (c .before .beats .ensures) ∙ c .if2 .taken)
 
 returns-2 : tie.Need-returns-2
 returns-2 c =
-    let t = c .before in
-    rw (enough-scores _ _ _ _ (t .before .shifted-score .ensures) (t .if1 .left), eq-eqb _ _ (c .if2 .taken))
-
-is-better-requires : tie.Need-is-better-requires
-is-better-requires c κs = search needs
+    let b = c .before in
+    let t = b .before in
+    let n = t .before .shifted-score .ensures in
+    beaten-kept _ _ _ _ (n .0) (t .before .before .pre .3) (n .1) (t .if1 .left) (sym (b .beats .ensures) ∙ c .if2 .taken)
 
 returns-3 : tie.Need-returns-3
 returns-3 c =
     let b = c .before in
-    let t = b .before .before in
-    rw (enough-scores _ _ _ _ (t .before .shifted-score .ensures) (t .if1 .left), ne-eqb _ _ (b .before .if2 .left), sym (b .is-better .ensures) ∙ c .if3 .taken)
-
-returns-4 : tie.Need-returns-4
-returns-4 c =
-    let b = c .before in
-    let t = b .before .before in
-    rw (enough-scores _ _ _ _ (t .before .shifted-score .ensures) (t .if1 .left), ne-eqb _ _ (b .before .if2 .left), sym (b .is-better .ensures) ∙ c .if3 .left)
+    let t = b .before in
+    let n = t .before .shifted-score .ensures in
+    unbeaten-passed _ _ _ _ (n .0) (t .before .before .pre .3) (n .1) (t .if1 .left) (sym (b .beats .ensures) ∙ c .if2 .left)
 
 pub weigh-spec : {M : Type 1} → statement M
-weigh-spec =
-    tie.close
-    (tie.spec
-    add-next
-    shifted-score-requires
-    returns
-    returns-2
-    is-better-requires
-    returns-3
-    returns-4)
+weigh-spec = tie.close (tie.spec add-next shifted-score-requires returns beats-requires sub-t13 returns-2 returns-3)
