@@ -2,16 +2,16 @@
 -- Assumes nothing.
 use mathlib.Core.Path.{_≡_, refl}
 use mathlib.Core.List.{List}
-use Prim.Native.Nat.{ℕ, _≤_}
+use Prim.Native.Nat.{ℕ, _≤_, _<_}
 use native.Mathlib.Omega.{arith}
 use lib.ListN.{length}
 use Rattle.geometry.specs.declared.Bucket.{Bucket}
 use Rattle.geometry.specs.declared.Bucket.the-variants.{Small, Medium, Large}
-use Rattle.lists.specs.Lists.{Bag, removed}
-use Rattle.pushes.specs.Pushes.{pushed, Pushable}
+use Rattle.lists.specs.Lists.{Bag, appended, removed}
+use Rattle.pushes.specs.Pushes.{swept, pushed, Pushable}
 use Rattle.buckets.specs.FreeLists.{Lists, listOf, withList, Within, pushedTo, removedFrom}
 use Rattle.lists.specs.ListLaws.{length-removed}
-use Rattle.pushes.specs.PushLaws.{pushed-within}
+use Rattle.pushes.specs.PushLaws.{room-given, room-gone, push-appends, push-sweeps, pushed-within}
 
 -- A bucket's list is the one that was put there, and the other buckets' lists are as they were.
 pub listOf-withList-same : (b : Bucket) (x : Bag) (l : Lists) → listOf b (withList b x l) ≡ x
@@ -41,6 +41,14 @@ withList-elim P Medium x l p q Large = q Large
 withList-elim P Large x l p q Small = q Small
 withList-elim P Large x l p q Medium = q Medium
 withList-elim P Large x l p q Large = p
+
+-- A push onto a bucket's list: with room it appends, and else it sweeps that list first.
+module _ (w : List ℕ) (v : ℕ) (b c : Bucket) (l : Lists) (x : Bag) (e : b ≡ c) where
+  pub roomy-pushed : listOf c l .len < length (listOf c l .table) → x ≡ appended (listOf c l) v → withList c x l ≡ pushedTo w v b l
+  roomy-pushed h f = rw (e, f, ← push-appends w v (listOf c l) (room-given _ _ h))
+
+  pub full-pushed : length (listOf c l .table) ≤ listOf c l .len → x ≡ appended (swept w v (listOf c l)) v → withList c x l ≡ pushedTo w v b l
+  full-pushed h f = rw (e, f, ← push-sweeps w v (listOf c l) (room-gone _ _ h))
 
 -- A push and a removal leave the lengths within the tables.
 pub pushedTo-within : (w : List ℕ) (v : ℕ) (b : Bucket) (l : Lists) → Pushable w v (listOf b l) → Within l → Within (pushedTo w v b l)

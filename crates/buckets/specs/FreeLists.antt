@@ -36,10 +36,6 @@ withList Large b l = record { small = l .small; medium = l .medium; large = b }
 abbrev pub Within : Lists → Type 0
 Within l = (b : Bucket) → listOf b l .len ≤ length (listOf b l .table)
 
--- An entry appended to a bucket's list once that is swept.
-abbrev pub sweptAndAppendedIn : List ℕ → ℕ → Bucket → Lists → Lists
-sweptAndAppendedIn w v b l = withList b (appended (swept w v (listOf b l)) v) l
-
 -- A push onto a bucket's list.
 abbrev pub pushedTo : List ℕ → ℕ → Bucket → Lists → Lists
 pushedTo w v b l = withList b (pushed w v (listOf b l)) l

@@ -4,41 +4,13 @@ use lists::Found;
 ghost use mathlib.Core.Path.{_≡_};
 ghost use Prim.Native.Nat.{_<_};
 ghost use Rattle.pushes.specs.Pushes.{Pushable};
-ghost use Rattle.buckets.specs.FreeLists.{lists, listOf, sweptAndAppendedIn, pushedTo, removedFrom, firstIn, entryOf, forgotten, Within};
+ghost use Rattle.buckets.specs.FreeLists.{lists, listOf, pushedTo, removedFrom, firstIn, entryOf, forgotten, Within};
 
 // How many places of each bucket's table are filled.
 pub struct Lengths {
     pub small: usize,
     pub medium: usize,
     pub large: usize,
-}
-
-// Sweeps a bucket's list, and appends v.
-fn sweep_and_append_to(
-    words: &[u32],
-    small: &mut [u32],
-    medium: &mut [u32],
-    large: &mut [u32],
-    lengths: Lengths,
-    bucket: Bucket,
-    v: u32,
-) -> Lengths
-    requires { ⌜ Pushable (now words) v (listOf bucket (lists lengths (now small) (now medium) (now large))) ⌝ }
-    ensures { λ r. ⌜ lists r (now (small .exit)) (now (medium .exit)) (now (large .exit)) ≡ sweptAndAppendedIn (now (words .entry)) v bucket (lists lengths (now (small .entry)) (now (medium .entry)) (now (large .entry))) ⌝ }
-{
-    let mut after = lengths;
-    match bucket {
-        Bucket::Small => {
-            after.small = pushes::sweep_and_append(words, small, lengths.small, v);
-        }
-        Bucket::Medium => {
-            after.medium = pushes::sweep_and_append(words, medium, lengths.medium, v);
-        }
-        Bucket::Large => {
-            after.large = pushes::sweep_and_append(words, large, lengths.large, v);
-        }
-    }
-    after
 }
 
 // Pushes v onto a bucket's list: appends it; a full list is swept first, and then has room.
@@ -57,22 +29,25 @@ pub fn push_to(
     let mut after = lengths;
     match bucket {
         Bucket::Small => {
-            if lengths.small >= small.len() {
-                return sweep_and_append_to(words, small, medium, large, lengths, bucket, v);
+            if lengths.small < small.len() {
+                after.small = lists::append(small, lengths.small, v);
+            } else {
+                after.small = pushes::sweep_and_append(words, small, lengths.small, v);
             }
-            after.small = lists::append(small, lengths.small, v);
         }
         Bucket::Medium => {
-            if lengths.medium >= medium.len() {
-                return sweep_and_append_to(words, small, medium, large, lengths, bucket, v);
+            if lengths.medium < medium.len() {
+                after.medium = lists::append(medium, lengths.medium, v);
+            } else {
+                after.medium = pushes::sweep_and_append(words, medium, lengths.medium, v);
             }
-            after.medium = lists::append(medium, lengths.medium, v);
         }
         Bucket::Large => {
-            if lengths.large >= large.len() {
-                return sweep_and_append_to(words, small, medium, large, lengths, bucket, v);
+            if lengths.large < large.len() {
+                after.large = lists::append(large, lengths.large, v);
+            } else {
+                after.large = pushes::sweep_and_append(words, large, lengths.large, v);
             }
-            after.large = lists::append(large, lengths.large, v);
         }
     }
     after
