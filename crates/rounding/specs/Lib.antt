@@ -1,3 +1,4 @@
 pub mod Rounding
 pub mod RoundingLaws
+pub mod PowerLaws
 pub mod RequestLaws

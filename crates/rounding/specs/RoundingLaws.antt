@@ -5,10 +5,9 @@ use Prim.Native.Nat.{ℕ, _+_, _-_, _*_, _/_, _%_, _≤_, _<_}
 use native.Mathlib.Nat.{mod-lt, div-add-mod', mul-mod-left, add-mul, one-mul, lt-of-mul-lt-mul-right, mul-le-mul-right}
 use native.Mathlib.Omega.{arith}
 use lib.Dec.{eqb}
-use borrow.Author.Tests.{eqb-true, eqb-false, le-leb}
+use borrow.Author.Tests.{eqb-true, eqb-false}
 use Rattle.geometry.specs.Choice.{pick-elim}
-use Rattle.rounding.specs.Rounding.{roundUp, rounded}
-use Rattle.rounding.specs.declared.Rounded.the-variants.{To}
+use Rattle.rounding.specs.Rounding.{roundUp}
 
 -- What holds of the side where it is a multiple, and of the next multiple where it is not, holds of the side rounded up.
 roundUp-elim : (P : ℕ → Type 0) (a s : ℕ) → (s % a ≡ 0 → P s) → ((s % a ≡ 0 → ⊥) → P (s + (a - s % a))) → P (roundUp a s)
@@ -42,11 +41,3 @@ module _ {a : ℕ} (p : 0 < a) where
       lt-of-mul-lt-mul-right a
       (rw (add-mul (m / a) 1 a, one-mul a) (omega (arith, roundUp-multiple s, roundUp-least s))) in
       omega (arith, roundUp-multiple s, mul-le-mul-right {m = r / a} {n = m / a} a (omega arith))
-
--- By an alignment of 1 a side is as it was.
-roundUp-one : (s : ℕ) → roundUp 1 s ≡ s
-roundUp-one s = omega (arith, roundUp-up 1 s, roundUp-least {a = 1} (omega arith) s)
-
-pub rounded-one : (s : ℕ) → s ≤ 2147483647 → To s ≡ rounded 1 s
-unfolding rounded
-rounded-one s h = rw (roundUp-one s, le-leb s 2147483647 h)

@@ -3,7 +3,7 @@ use geometry::Extent;
 use geometry::Setup;
 use geometry::Size;
 ghost use mathlib.Core.Path.{_≡_};
-ghost use Prim.Native.Nat.{_<_, _^_};
+ghost use Prim.Native.Nat.{_<_, _^_, _%_};
 ghost use Rattle.geometry.specs.Sides.{ValidSetup};
 ghost use Rattle.rounding.specs.Rounding.{rounded, requestOf};
 
@@ -13,16 +13,25 @@ pub enum Rounded {
     Over,
 }
 
+// What a side has above the last multiple of the alignment. By a power of two nothing is divided: it is the digits below that power.
+fn rest_of(alignment: u32, side: u32) -> u32
+    requires { ⌜ 0 < alignment ⌝ }
+    ensures { λ r. ⌜ r ≡ side % alignment ⌝ }
+{
+    let below = alignment - 1;
+    let shared = alignment & below;
+    if shared == 0 {
+        return side & below;
+    }
+    side % alignment
+}
+
 // The side rounded up to a multiple of the alignment, refused where that exceeds 2,147,483,647.
 pub fn adjust_size(alignment: u32, side: u32) -> Rounded
     requires { ⌜ (0 < alignment) × (alignment < 2 ^ 31) × (side < 2 ^ 31) ⌝ }
     ensures { λ r. ⌜ r ≡ rounded alignment side ⌝ }
 {
-    // Most sheets have no alignment: nothing is divided then.
-    if alignment == 1 {
-        return Rounded::To(side);
-    }
-    let rem = side % alignment;
+    let rem = rest_of(alignment, side);
     if rem == 0 {
         return Rounded::To(side);
     }
