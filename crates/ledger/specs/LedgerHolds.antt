@@ -12,7 +12,7 @@ use Rattle.table.specs.Table.{word, nodeAt}
 use Rattle.lists.specs.Lists.{firstOf}
 use Rattle.pushes.specs.Pushes.{hasRoom, pushed}
 use Rattle.buckets.specs.FreeLists.{entryIn, entryOf, forgotten}
-use Rattle.fits.specs.Scans.{lesser, better, weighed, look, looking}
+use Rattle.fits.specs.Scans.{lesser, better, opening, weighed, look, looking}
 use Rattle.choices.specs.Choices.{scanBucket, searchOne}
 use Rattle.search.specs.Search.{searchUp, goneOn, findSuitable}
 use Rattle.steps.specs.Spares.{newNode, markedUnused, ofKind, countKind}
@@ -34,7 +34,7 @@ use Rattle.ledger.specs.Days.{inUseBelow}
 use Rattle.ledger.specs.Ledger.{Ledger}
 
 pub ledger-holds : Ledger
-unfolding reaches bucketOf emptyRect natural sheetSide validSetup setupOf roundUp rounded requestOf areaCompared exactFit cutWay cutOf kindOf orientationOf storedRect stored word setWord nodeAt firstOf hasRoom pushed entryIn entryOf forgotten lesser better weighed look looking scanBucket searchOne searchUp goneOn findSuitable newNode markedUnused ofKind countKind listLength lentLengths newsOf turned answeredBy beside pairUnder carved piecesEntered taken cutFor grantOf granted shapeOf started startCall allocatedFor allocated absorbed nextAbsorbed absorbedByPrev isOnlyChild givenUp climbed climbOf released growth lastFrom stretched appendedTo grownAlong reparented grownAcross loneFree grownBoth grown growSlots isSmaller growAnswer ticketAnswer afterCheck inUseBelow
+unfolding reaches bucketOf emptyRect natural sheetSide validSetup setupOf roundUp rounded requestOf areaCompared exactFit cutWay cutOf kindOf orientationOf storedRect stored word setWord nodeAt firstOf hasRoom pushed entryIn entryOf forgotten lesser better opening weighed look looking scanBucket searchOne searchUp goneOn findSuitable newNode markedUnused ofKind countKind listLength lentLengths newsOf turned answeredBy beside pairUnder carved piecesEntered taken cutFor grantOf granted shapeOf started startCall allocatedFor allocated absorbed nextAbsorbed absorbedByPrev isOnlyChild givenUp climbed climbOf released growth lastFrom stretched appendedTo grownAlong reparented grownAcross loneFree grownBoth grown growSlots isSmaller growAnswer ticketAnswer afterCheck inUseBelow
 ledger-holds =
     record {
       first-is = (refl, refl, refl);
