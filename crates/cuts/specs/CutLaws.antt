@@ -4,12 +4,12 @@
 use mathlib.Core.Path.{_≡_, refl, sym, _∙_}
 use mathlib.Core.Bool.{Bool, true, false, true≢false}
 use mathlib.Core.Logic.{⊎-elim}
-use Prim.Native.Nat.{ℕ, zero, suc, _+_, _-_, _≤_, _<_}
+use Prim.Native.Nat.{ℕ, zero, suc, _+_, _-_, _*_, _≤_, _<_}
 use native.Mathlib.Nat.{mul-pos, zero-mul, mul-zero}
 use native.Mathlib.Omega.{arith}
 use lib.Dec.{eqb, leb}
 use borrow.Author.Tests.{eqb-true, eqb-false, ltb-true, ltb-false, le-leb, lt-leb}
-use Rattle.geometry.specs.Choice.{pick-elim}
+use Rattle.geometry.specs.Choice.{pick-elim, lesser, lesser-first}
 use Rattle.geometry.specs.Rectangles.{flip, noRect, widthOf, heightOf, emptyRect}
 use Rattle.cuts.specs.Cuts.{FitsIn, atCorner, areaCompared, splitOf, leftoverOf, exactFit, cutWay, cutOf}
 use Rattle.geometry.specs.Measures.{covers, areaOf, span, start, end, along, Adds}
@@ -23,14 +23,17 @@ use Rattle.cuts.specs.declared.Cut.{Cut}
 
 -- All that is used of the area compared: it is above 0 exactly where both sides are.
 compared-positive : {u v : ℕ} → 0 < u → 0 < v → 0 < areaCompared u v
-unfolding areaCompared
-compared-positive p q = mul-pos p q
+unfolding areaCompared lesser
+compared-positive {u} {v} p q = pick-elim (λ (n : ℕ). 0 < n) (leb (u * v) 2147483647) _ _ (λ t. mul-pos p q) (λ t. omega arith)
 
 compared-sides : (u v : ℕ) → 0 < areaCompared u v → (0 < u) × (0 < v)
 unfolding areaCompared
-compared-sides zero v h = absurd (let k = rw (zero-mul v) at h in omega arith)
-compared-sides (suc u) zero h = absurd (let k = rw (mul-zero (suc u)) at h in omega arith)
-compared-sides (suc u) (suc v) h = (omega arith, omega arith)
+compared-sides u v h = sides u v (omega (arith, lesser-first (u * v) 2147483647 _ refl))
+  where
+    sides : (u v : ℕ) → 0 < u * v → (0 < u) × (0 < v)
+    sides zero v h = absurd (let k = rw (zero-mul v) at h in omega arith)
+    sides (suc u) zero h = absurd (let k = rw (mul-zero (suc u)) at h in omega arith)
+    sides (suc u) (suc v) h = (omega arith, omega arith)
 
 -- Within a bound, to be at it is to be equal to it.
 leb-eqb : (n d : ℕ) → n ≤ d → leb d n ≡ eqb n d

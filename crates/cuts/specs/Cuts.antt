@@ -3,7 +3,7 @@
 use mathlib.Core.Bool.{Bool, _&&_}
 use Prim.Native.Nat.{ℕ, _+_, _-_, _*_, _≤_}
 use lib.Dec.{eqb, ltb}
-use Rattle.geometry.specs.Choice.{pick}
+use Rattle.geometry.specs.Choice.{pick, lesser}
 use Rattle.geometry.specs.Rectangles.{noRect, widthOf, heightOf}
 use Rattle.geometry.specs.declared.Rectangle.{Rectangle}
 use Rattle.geometry.specs.declared.Orientation.{Orientation}
@@ -19,9 +19,9 @@ pub record FitsIn (r : Rectangle) (w h : ℕ) : Type 0 where
 abbrev pub atCorner : Rectangle → ℕ → ℕ → Rectangle
 atCorner r w h = record { x0 = r .x0; y0 = r .y0; x1 = r .x0 + w; y1 = r .y0 + h }
 
--- The area by which the two candidates are compared: the exact product.
+-- The area by which the two candidates are compared: the product, but at most 2,147,483,647.
 unfoldable pub areaCompared : ℕ → ℕ → ℕ
-areaCompared w h = w * h
+areaCompared w h = lesser (w * h) 2147483647
 
 -- The candidates: to the right of the request (W−w)×h, and at the bottom w×(H−h).
 abbrev pub rightOf : Rectangle → ℕ → ℕ → Rectangle

@@ -4,11 +4,14 @@ use geometry::Rectangle;
 ghost use mathlib.Core.Path.{_≡_};
 ghost use Rattle.cuts.specs.Cuts.{areaCompared, exactFit, cutWay, splitOf, leftoverOf, FitsIn, cutOf};
 
+// The most that an area counts for.
+const MOST: u64 = 2147483647;
+
 // The area by which the cut compares its two candidates.
 fn area_compared(w: u32, h: u32) -> u64
     ensures { λ r. ⌜ r ≡ areaCompared w h ⌝ }
 {
-    (w as u64) * (h as u64)
+    geometry::lesser((w as u64) * (h as u64), MOST)
 }
 
 // Whether the request has exactly the size of the rectangle.

@@ -9,7 +9,7 @@ use native.Mathlib.Omega.{arith}
 use lib.ListN.{length}
 use lib.Dec.{eqb, ltb, leb}
 use borrow.Author.Tests.{leb-true, leb-false, le-leb, lt-leb, ltb-true, ltb-false, le-ltb, lt-ltb, ne-eqb}
-use Rattle.geometry.specs.Choice.{pick, pick-elim}
+use Rattle.geometry.specs.Choice.{pick, pick-elim, lesser}
 use Rattle.geometry.specs.Rectangles.{widthOf, heightOf}
 use Rattle.geometry.specs.declared.Rectangle.{Rectangle}
 use Rattle.slots.specs.Slots.{slot, sameKind}
@@ -22,7 +22,7 @@ use Rattle.fits.specs.declared.Scan.{Scan}
 use Rattle.fits.specs.declared.Best.{Best}
 use Rattle.fits.specs.declared.Best.the-variants.{Found, Nothing}
 use Rattle.fits.specs.declared.Query.{Query}
-use Rattle.fits.specs.Scans.{lesser, better, scoreOf, shift, shiftedScore, passed, kept, ended, scored, weighed, beats, opening, Open, Scanned, scanned, entryAt, dropped, look, looking, Lookable, Ready}
+use Rattle.fits.specs.Scans.{better, scoreOf, shift, shiftedScore, passed, kept, ended, scored, weighed, beats, opening, Open, Scanned, scanned, entryAt, dropped, look, looking, Lookable, Ready}
 use Rattle.fits.specs.Suits.{Suits}
 use Rattle.fits.specs.Thinned.{Thinned, thinned-itself, thinned-twice, each-thinned, dead-removed}
 
@@ -71,12 +71,6 @@ pub beats-enough : (score n : ℕ) (worst : Bool) → beats score n worst ≡ tr
 unfolding beats
 beats-enough score n worst =
     pick-elim (λ (b : Bool). b ≡ true → shift ≤ n) (ltb n shift) _ _ (λ t e. let z : _≡_ {A = ℕ} 0 1 = cc in omega arith) (λ t e. ltb-false n shift t)
-
--- The lesser of two isn't above the first.
-pub lesser-first : (a b n : ℕ) → n ≡ lesser a b → n ≤ a
-unfolding lesser
-lesser-first a b n e =
-    rw e (pick-elim (λ (n : ℕ). n ≤ a) (leb a b) _ _ (λ t. omega arith) (λ t. let z = leb-false a b t in omega arith))
 
 -- Two spare sides, shifted up: where the lesser is below the shift one side is too short, and else both are enough.
 lesser-short : (w h a b : ℕ) → lesser (w + shift - a) (h + shift - b) < shift → a ≤ w → h < b

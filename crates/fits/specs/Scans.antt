@@ -5,8 +5,8 @@ use mathlib.Core.Bool.{Bool, true, false}
 use mathlib.Core.List.{List}
 use Prim.Native.Nat.{ℕ, zero, suc, _+_, _-_, _≤_, _<_}
 use lib.ListN.{length, getD}
-use lib.Dec.{eqb, ltb, leb}
-use Rattle.geometry.specs.Choice.{pick}
+use lib.Dec.{eqb, ltb}
+use Rattle.geometry.specs.Choice.{pick, lesser}
 use Rattle.geometry.specs.Rectangles.{widthOf, heightOf}
 use Rattle.geometry.specs.declared.Rectangle.{Rectangle}
 use Rattle.slots.specs.Slots.{slot}
@@ -17,9 +17,6 @@ use Rattle.fits.specs.declared.Best.{Best}
 use Rattle.fits.specs.declared.Best.the-variants.{Found, Nothing}
 use Rattle.fits.specs.declared.Query.{Query}
 use Rattle.fits.specs.declared.Scan.{Scan}
-
-unfoldable pub lesser : ℕ → ℕ → ℕ
-lesser a b = pick (leb a b) a b
 
 -- Greatest wins if the request's bucket is large, least otherwise; the first of equals stays.
 unfoldable pub better : Best → ℕ → ℕ → Bool → Bool

@@ -5,7 +5,7 @@ use slots::NodeKind;
 ghost use mathlib.Core.Path.{_≡_};
 ghost use Prim.Native.Nat.{_≤_, _<_};
 ghost use Rattle.lists.specs.Lists.{bag};
-ghost use Rattle.fits.specs.Scans.{lesser, opening, shiftedScore, beats, weighed, Open, scanned, look, scanAll, Ready};
+ghost use Rattle.fits.specs.Scans.{opening, shiftedScore, beats, weighed, Open, scanned, look, scanAll, Ready};
 
 // What is looked for: a rectangle at least this wide and tall. The greatest lesser spare side wins where worst is set, else the least.
 pub struct Query {
@@ -29,15 +29,6 @@ pub struct Scan {
     pub score: u64,
 }
 
-fn lesser(a: u64, b: u64) -> u64
-    ensures { λ r. ⌜ r ≡ lesser a b ⌝ }
-{
-    if a <= b {
-        return a;
-    }
-    b
-}
-
 // One more than the greatest u32.
 const SHIFT: u64 = 4294967296;
 
@@ -48,7 +39,7 @@ fn shifted_score(r: Rectangle, q: Query) -> u64
 {
     let wide = (r.x1 - r.x0) as u64;
     let tall = (r.y1 - r.y0) as u64;
-    lesser(
+    geometry::lesser(
         wide + SHIFT - (q.width as u64),
         tall + SHIFT - (q.height as u64),
     )

@@ -1,6 +1,7 @@
 // Sides and setups as they arrive, rectangles and buckets.
 ghost use mathlib.Core.Path.{_≡_};
 ghost use Prim.Native.Nat.{_<_, _^_};
+ghost use Rattle.geometry.specs.Choice.{lesser};
 ghost use Rattle.geometry.specs.Sides.{natural, sheetSide, validSetup, extentOf, setupOf};
 ghost use Rattle.geometry.specs.Buckets.{reaches, bucketOf};
 ghost use Rattle.geometry.specs.Rectangles.{noRect, flip, emptyRect};
@@ -45,6 +46,16 @@ pub struct Rectangle {
 pub enum Orientation {
     Vertical,
     Horizontal,
+}
+
+// The lesser of two numbers.
+pub fn lesser(a: u64, b: u64) -> u64
+    ensures { λ r. ⌜ r ≡ lesser a b ⌝ }
+{
+    if a <= b {
+        return a;
+    }
+    b
 }
 
 // The other orientation.

@@ -5,6 +5,7 @@ use Rattle.geometry.specs.Buckets.{reaches, bucketOf}
 use Rattle.geometry.specs.Rectangles.{emptyRect}
 use Rattle.geometry.specs.Sides.{natural, sheetSide, validSetup, setupOf}
 use Rattle.rounding.specs.Rounding.{roundUp, rounded, requestOf}
+use Rattle.geometry.specs.Choice.{lesser}
 use Rattle.cuts.specs.Cuts.{areaCompared, exactFit, cutWay, cutOf}
 use Rattle.slots.specs.Slots.{kindOf, orientationOf}
 use Rattle.stores.specs.Stores.{setWord, storedRect, stored}
@@ -12,7 +13,7 @@ use Rattle.table.specs.Table.{word, nodeAt}
 use Rattle.lists.specs.Lists.{firstOf}
 use Rattle.pushes.specs.Pushes.{hasRoom, pushed}
 use Rattle.buckets.specs.FreeLists.{entryIn, entryOf, forgotten}
-use Rattle.fits.specs.Scans.{lesser, better, opening, weighed, look, looking}
+use Rattle.fits.specs.Scans.{better, opening, weighed, look, looking}
 use Rattle.choices.specs.Choices.{scanBucket, searchOne}
 use Rattle.search.specs.Search.{searchUp, goneOn, findSuitable}
 use Rattle.steps.specs.Spares.{newNode, markedUnused, ofKind, countKind}

@@ -2,17 +2,19 @@
 -- Assumes nothing.
 use Rattle.cuts.proofs.Product.{product-fits}
 use Rattle.cuts.specs.Cuts.{areaCompared}
-use mathlib.Core.Path.{refl}
 use borrow.Author.Needs.{needs}
 use Rattle.cuts.proofs.area_compared.Statement.{statement}
 use Rattle.cuts.proofs.area_compared.Tie as tie
 
-mul-result : tie.Need-mul-result
-mul-result c = record { fits = product-fits 32 (search needs) (search needs) }
+mul-lesser : tie.Need-mul-lesser
+mul-lesser c = record { fits = product-fits 32 (search needs) (search needs) }
+
+lesser-requires : tie.Need-lesser-requires
+lesser-requires c κs = search needs
 
 returns : tie.Need-returns
 unfolding areaCompared
-returns c = refl
+returns c = c .lesser .ensures
 
 pub area-compared-spec : {M : Type 1} → statement M
-area-compared-spec = tie.close (tie.spec mul-result returns)
+area-compared-spec = tie.close (tie.spec mul-lesser lesser-requires returns)

@@ -1,8 +1,8 @@
 -- `shifted_score` is the lesser of the two spare sides, each shifted up.
 -- Assumes nothing.
 use borrow.Author.Needs.{needs}
+use Rattle.geometry.specs.Choice.{lesser-first}
 use Rattle.fits.specs.Scans.{shiftedScore}
-use Rattle.fits.specs.ScanLaws.{lesser-first}
 use Rattle.fits.proofs.shifted_score.Statement.{statement}
 use Rattle.fits.proofs.shifted_score.Tie as tie
 

@@ -1,9 +1,9 @@
--- `lesser` is the lesser of two numbers.
+-- `geometry::lesser` is the lesser of two numbers.
 -- Assumes nothing.
 use borrow.Author.Tests.{le-leb, lt-leb}
-use Rattle.fits.specs.Scans.{lesser}
-use Rattle.fits.proofs.lesser.Statement.{statement}
-use Rattle.fits.proofs.lesser.Tie as tie
+use Rattle.geometry.specs.Choice.{lesser}
+use Rattle.geometry.proofs.lesser.Statement.{statement}
+use Rattle.geometry.proofs.lesser.Tie as tie
 
 returns : tie.Need-returns
 unfolding lesser
