@@ -3,7 +3,7 @@
 use crate::call::{ours, Call, Setup};
 use crate::fenced::Sheet;
 use model::tables::{Tables, BUCKETS};
-use oracle::premises::{self, candidate_areas};
+use oracle::premises::{self, candidate_areas, MOST_AREA};
 use oracle::view::{state, steps, AllocId, NodeKind, State, NONE};
 use oracle::{size2, AllocatorOptions, AtlasAllocator, Rectangle};
 
@@ -26,7 +26,7 @@ pub struct Counts {
     pub wrapped: usize,
     /// Placed with no piece left over.
     pub exact: usize,
-    /// Cuts with an area past the crate's cap: outside the premises, and compared all the same.
+    /// Cuts with an area past the crate's cap.
     pub past_cap: usize,
     pub most_slots: usize,
     pub most_entries: usize,
@@ -190,8 +190,7 @@ impl Beside {
 
     /// Whether a candidate of the cut that comes now has an area past the crate's cap. Only a sheet that has one itself is looked at.
     fn is_past_cap(&self, rounded: oracle::Size) -> bool {
-        let cap = i64::from(i32::MAX);
-        if i64::from(self.seen.size.width) * i64::from(self.seen.size.height) <= cap {
+        if i64::from(self.seen.size.width) * i64::from(self.seen.size.height) <= MOST_AREA {
             return false;
         }
         let chosen = steps::find_suitable_rect(&mut self.atlas.clone(), rounded);
@@ -199,7 +198,7 @@ impl Beside {
             return false;
         }
         let (right, bottom) = candidate_areas(&self.seen.at(chosen).rect, rounded);
-        right.max(bottom) > cap
+        right.max(bottom) > MOST_AREA
     }
 
     /// Everything that both hold, and that ours is sound.

@@ -22,6 +22,11 @@ pub enum Cut {
     Pieces { split: Rect, leftover: Option<Rect>, orientation: Orientation },
 }
 
+/// What an area counts for in the cut: 2,147,483,647 at most.
+fn area_compared(piece: Rect) -> i64 {
+    (piece.width() * piece.height()).min(2_147_483_647)
+}
+
 /// Cuts a request out of the min corner of the chosen rectangle, which is as wide and as tall.
 pub fn guillotine_rect(chosen: Rect, width: u32, height: u32) -> Cut {
     let (x, y) = (chosen.x0 + width, chosen.y0 + height);
@@ -30,7 +35,7 @@ pub fn guillotine_rect(chosen: Rect, width: u32, height: u32) -> Cut {
     if (x, y) == (chosen.x1, chosen.y1) {
         return Cut::Exact;
     }
-    let (split, leftover, orientation) = if right.width() * right.height() > bottom.width() * bottom.height() {
+    let (split, leftover, orientation) = if area_compared(right) > area_compared(bottom) {
         (rect(x, chosen.y0, chosen.x1, chosen.y1), bottom, Orientation::Horizontal)
     } else {
         (rect(chosen.x0, y, chosen.x1, chosen.y1), right, Orientation::Vertical)

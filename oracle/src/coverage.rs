@@ -6,7 +6,7 @@ pub mod search;
 use std::collections::BTreeMap;
 use std::fmt;
 
-use crate::premises::candidate_areas;
+use crate::premises::{candidate_areas, MOST_AREA};
 use crate::view::{leaves, NodeKind, State, NONE};
 use crate::{AllocatorOptions, Size};
 
@@ -44,6 +44,7 @@ const SINGLES: &[&str] = &[
     "climb of 4 levels or more",
     "cut along before a next sibling",
     "cut with equal areas",
+    "cut with an area past the cap",
     "empty yes",
     "empty no",
     "grow across over a chain of several",
@@ -205,7 +206,8 @@ pub fn cut(counts: &mut Counts, state: &State, rounded: Size, chosen: u32) {
     counts.hit(&cut_name(shape, ORIENTATIONS[slot.orientation()]));
     counts.hit_if(slot.next != NONE && shape.starts_with("along"), "cut along before a next sibling");
     let (right, bottom) = candidate_areas(&slot.rect, rounded);
-    counts.hit_if(right == bottom && !split.is_empty(), "cut with equal areas");
+    counts.hit_if(right.min(MOST_AREA) == bottom.min(MOST_AREA) && !split.is_empty(), "cut with equal areas");
+    counts.hit_if(right.max(bottom) > MOST_AREA, "cut with an area past the cap");
 }
 
 /// The levels of a deallocate's climb, told from the links before it.

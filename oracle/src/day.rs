@@ -84,7 +84,6 @@ impl Day<'_> {
     fn search(&mut self, before: &State, rounded: Size) {
         let mut tried = self.atlas.clone();
         let chosen = steps::find_suitable_rect(&mut tried, rounded);
-        premises::areas(before, chosen, rounded);
         coverage::search::count(&mut self.list.counts, before, rounded, chosen);
         coverage::cut(&mut self.list.counts, before, rounded, chosen);
         if before.slots.len() <= SEARCH_SHOWN {

@@ -173,6 +173,12 @@ fn crate_tests(list: &mut List) {
     day.clear();
     day.clear();
 
+    // issue_25, and everything freed
+    let mut day = Day::plain(list, 65_536, 65_536);
+    let [a, b, c] = day.take_all([(2, 2), (65_500, 2), (2, 65_500)]);
+    day.free_all(&[b, a, c]);
+    day.take_whole();
+
     // grow_free_list_bucket
     let mut day = Day::plain(list, 100, 100);
     let a = day.take(100, 90);

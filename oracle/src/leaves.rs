@@ -1,6 +1,6 @@
 //! The leaf vectors at the head of the list: buckets, roundings and cuts as the crate works them out.
 
-use crate::premises::candidate_areas;
+use crate::premises::{candidate_areas, MOST_AREA};
 use crate::random::Stream;
 use crate::record::{corners, tag, List};
 use crate::view::leaves::{adjust_size, free_list_for_size, guillotine_rect};
@@ -59,8 +59,8 @@ fn at(x: i32, y: i32, width: i32, height: i32) -> Rectangle {
     Rectangle { min: point2(x, y), max: point2(x + width, y + height) }
 }
 
-/// All cuts of two small rectangles, some drawn ones, and large ones. In the last group one area lies above the crate's
-/// cap and the other below it, so that capped and exact areas compare alike.
+/// All cuts of two small rectangles, some drawn ones, and large ones: with one area above the crate's cap and the other below it, and with
+/// both above it, which makes them equal.
 fn cuts(list: &mut List) {
     for chosen in [at(0, 0, 3, 3), at(5, 9, 4, 2)] {
         for width in 1..=chosen.width() {
@@ -82,8 +82,14 @@ fn cuts(list: &mut List) {
     }
     for (width, height) in [(1_000, 60_000), (60_000, 1_000), (2, 65_500), (65_500, 2), (1, 65_535), (65_535, 1)] {
         let (right, bottom) = candidate_areas(&sheet, size2(width, height));
-        let cap = i64::from(MOST);
-        assert!(right.max(bottom) > cap && right.min(bottom) < cap);
+        assert!(right.max(bottom) > MOST_AREA && right.min(bottom) < MOST_AREA);
         cut(list, sheet, width, height);
+    }
+    for chosen in [at(0, 0, MOST, MOST), at(7, 9, 200_000, 200_000)] {
+        for (width, height) in [(60_000, 50_000), (50_000, 60_000), (65_536, 65_536), (99_999, 50_000)] {
+            let (right, bottom) = candidate_areas(&chosen, size2(width, height));
+            assert!(right.min(bottom) > MOST_AREA);
+            cut(list, chosen, width, height);
+        }
     }
 }

@@ -1,8 +1,8 @@
 //! What must hold of a call for the crate and the Rattle side to be comparable at all: the crate's own assertions, the
-//! sheet and options that 01 accepts, sums and areas that stay within an i32, live tickets, and tables with room. Each
+//! sheet and options that 01 accepts, sums that stay within an i32, live tickets, and tables with room. Each
 //! function panics where its premise fails, so a list or a replay that ends has kept them.
 
-use crate::view::{leaves, NodeKind, State, NONE};
+use crate::view::{leaves, NodeKind, State};
 use crate::{size2, AllocatorOptions, Rectangle, Size};
 
 /// The longest side of a sheet.
@@ -34,19 +34,14 @@ pub fn rounded(state: &State, request: Size) -> Size {
     size2(rounded_side(alignment.width, request.width), rounded_side(alignment.height, request.height))
 }
 
-/// The exact areas of the right and the bottom candidate of a cut.
+/// The most that an area counts for when the crate compares two.
+pub const MOST_AREA: i64 = i32::MAX as i64;
+
+/// The areas of the right and the bottom candidate of a cut, whole. The crate compares them up to `MOST_AREA`.
 pub fn candidate_areas(chosen: &Rectangle, rounded: Size) -> (i64, i64) {
     let spare_width = i64::from(chosen.width()) - i64::from(rounded.width);
     let spare_height = i64::from(chosen.height()) - i64::from(rounded.height);
     (spare_width * i64::from(rounded.height), i64::from(rounded.width) * spare_height)
-}
-
-/// Allocate: both areas that the cut compares are below the crate's cap, or at it.
-pub fn areas(state: &State, chosen: u32, rounded: Size) {
-    if chosen != NONE {
-        let (right, bottom) = candidate_areas(&state.at(chosen).rect, rounded);
-        assert!(right.max(bottom) <= i64::from(i32::MAX), "areas {right} and {bottom}");
-    }
 }
 
 /// Deallocate: the ticket is live.

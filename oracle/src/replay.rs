@@ -178,7 +178,6 @@ impl Reader {
         if !request.is_empty() {
             let before = view::state(&self.atlas);
             let rounded = premises::rounded(&before, request);
-            premises::areas(&before, steps::find_suitable_rect(&mut self.atlas.clone(), rounded), rounded);
             if let Some(searched) = self.searched.take() {
                 assert_eq!((searched.rounded, searched.read), (rounded, 3));
             }
