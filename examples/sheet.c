@@ -80,7 +80,7 @@ int main(void) {
     uint32_t list[4] = {7, 7, 7, 7}, count = 7, empty = 7, root;
 
     /* A setup that is refused changes nothing. */
-    expect("a side too long", ferrunchju_start(TABLES, 65537, 1, 1, 1, 32, 256), FERRUNCHJU_INVALID_SETUP);
+    expect("no side", ferrunchju_start(TABLES, 0, 1, 1, 1, 32, 256), FERRUNCHJU_INVALID_SETUP);
     expect("the head", head.count, 0);
     expect("no tables yet", ferrunchju_check(TABLES), FERRUNCHJU_NOT_SOUND);
 

@@ -49,7 +49,7 @@ enum ferrunchju_answer {
 
 /* What is kept beside the tables, in twelve numbers of 32 bits. */
 struct ferrunchju_head {
-    int32_t width;             /* the sheet, 1 to 65,536 */
+    int32_t width;             /* the sheet, 1 to 2,147,483,647 */
     int32_t height;
     int32_t alignment_width;   /* requests are rounded up to multiples of these, 1 or more */
     int32_t alignment_height;

@@ -7,11 +7,11 @@ use model::random::Stream;
 use model::tables::Options;
 
 /// The longest side of a sheet.
-const LONGEST: i32 = 65_536;
+const LONGEST: i32 = i32::MAX;
 
 /// A side of a sheet: short, of any length, or at an end of the range.
 fn side(stream: &mut Stream, least: i32) -> i32 {
-    let most = stream.pick(&[1, 4, 9, 30, 100, 1_000, 1_000, 5_000, LONGEST]).max(least);
+    let most = stream.pick(&[1, 4, 9, 30, 100, 1_000, 1_000, 5_000, 65_536, LONGEST]).max(least);
     if stream.below(6) == 0 {
         most
     } else {
@@ -25,8 +25,8 @@ fn alignment(stream: &mut Stream, side: i32) -> i32 {
         0..=10 => 1,
         11..=16 => stream.pick(&[2, 3, 4, 5, 7, 16]),
         17 => stream.between(1, side),
-        18 => stream.between(side, 2 * side),
-        _ => stream.pick(&[LONGEST, 1 << 30, i32::MAX]),
+        18 => stream.between(side, side.saturating_mul(2)),
+        _ => stream.pick(&[65_536, 1 << 30, i32::MAX]),
     }
 }
 
@@ -34,8 +34,8 @@ fn alignment(stream: &mut Stream, side: i32) -> i32 {
 fn thresholds(stream: &mut Stream, side: i32) -> (i32, i32) {
     let one = |stream: &mut Stream| match stream.below(8) {
         0 => stream.pick(&[i32::MIN, -1_000, -1, 0, 1]),
-        1 => stream.pick(&[i32::MAX, i32::MAX - 1, LONGEST, LONGEST + 1]),
-        2 => side + stream.between(-1, 1),
+        1 => stream.pick(&[i32::MAX, i32::MAX - 1, 65_536, 65_537]),
+        2 => side.saturating_add(stream.between(-1, 1)),
         _ => stream.between(0, side / 2 + 1),
     };
     let small = one(stream);
@@ -112,7 +112,7 @@ impl Day {
             1 => (stream.between(1, size.width), size.height),
             2 => (size.width, stream.between(1, size.height)),
             3 => (stream.between(1, size.width), stream.between(1, size.height)),
-            4 => (stream.between(1, 3 * size.width), stream.between(1, 3 * size.height)),
+            4 => (stream.between(1, size.width.saturating_mul(3)), stream.between(1, size.height.saturating_mul(3))),
             5 if stream.below(3) == 0 => {
                 (stream.pick(&[0, 1, -1, i32::MIN, i32::MAX]), stream.pick(&[0, 1, i32::MIN, i32::MAX]))
             }
@@ -140,10 +140,10 @@ impl Day {
     /// A size not below the present one, within the range: mostly near, and at times far.
     fn grow(&mut self) {
         let size = self.beside.seen.size;
-        let most = self.stream.pick(&[1, 1, 5, 40, LONGEST]);
+        let most = self.stream.pick(&[1, 1, 5, 40, 65_536, LONGEST]);
         let mut longer = |side: i32| match self.stream.below(3) {
             0 => side,
-            _ => self.stream.between(side, (side + most).min(LONGEST)),
+            _ => self.stream.between(side, side.saturating_add(most)),
         };
         let (width, height) = (longer(size.width), longer(size.height));
         self.make(Call::Grow(width, height));

@@ -94,7 +94,7 @@ fn done<T>(answer: Result<T, Refusal>) -> T {
     }
 }
 
-/// A rectangle from its four words. Corners are at most 65,536.
+/// A rectangle from its four words. Corners are at most 2,147,483,647.
 fn rectangle_of(corners: &[u32]) -> Rectangle {
     Rectangle::new(point2(corners[0] as i32, corners[1] as i32), point2(corners[2] as i32, corners[3] as i32))
 }
@@ -103,7 +103,7 @@ impl AtlasAllocator {
     /// An allocator for a sheet of this size, with the default options.
     ///
     /// # Panics
-    /// Where a side is not 1 to 65,536.
+    /// Where a side is 0 or less.
     pub fn new(size: Size) -> Self {
         AtlasAllocator::with_options(size, &DEFAULT_OPTIONS)
     }
@@ -111,7 +111,7 @@ impl AtlasAllocator {
     /// An allocator with the options given, and room for 4,096 slots.
     ///
     /// # Panics
-    /// Where a side is not 1 to 65,536, an alignment is 0 or less, or the large threshold is below the small one.
+    /// Where a side of the sheet or an alignment is 0 or less, or the large threshold is below the small one.
     pub fn with_options(size: Size, options: &AllocatorOptions) -> Self {
         done(AtlasAllocator::try_with_options(size, options))
     }
@@ -237,7 +237,7 @@ impl AtlasAllocator {
     /// ```
     ///
     /// # Panics
-    /// Where a side is smaller than now or above 65,536, and where too few slots are spare.
+    /// Where a side is smaller than now, and where too few slots are spare.
     pub fn grow(&mut self, new_size: Size) {
         done(self.try_grow(new_size))
     }

@@ -23,7 +23,7 @@
 //! ```
 //!
 //! What it does otherwise than guillotiere is listed in docs/DIFFERENCES.md of the repository. In short: it has room for 4,096 slots, after
-//! which [`allocate`](AtlasAllocator::allocate) gives `None`; sheet sides are at most 65,536; a ticket that isn't live is always told; rearranging,
+//! which [`allocate`](AtlasAllocator::allocate) gives `None`; a ticket that isn't live is always told; rearranging,
 //! `SimpleAtlasAllocator`, drawing and serde are not there.
 //!
 //! # What is proved, and what isn't

@@ -7,7 +7,7 @@
 use crate::tables::{rect, Head, Kind, Orientation, Rect, Tables, BUCKETS, LARGE, MEDIUM, NONE, SMALL};
 
 /// The longest side of a sheet, the most slots, and the most entries of a list table.
-pub const LONGEST: i32 = 65_536;
+pub const LONGEST: i32 = i32::MAX;
 pub const MOST_SLOTS: usize = 4_096;
 pub const MOST_ENTRIES: usize = 16_384;
 
@@ -33,10 +33,10 @@ pub fn lengths_in_range(tables: &Tables) -> bool {
         && tables.lists.iter().all(|list| (slots..=MOST_ENTRIES).contains(&list.len()))
 }
 
-/// Sheet sides are 1 to 65,536, alignment sides are positive, and the large threshold is at least the small one.
+/// Sheet sides are above 0, alignment sides are positive, and the large threshold is at least the small one.
 pub fn setup_valid(head: &Head) -> bool {
-    (1..=LONGEST).contains(&head.width)
-        && (1..=LONGEST).contains(&head.height)
+    head.width > 0
+        && head.height > 0
         && head.options.align_width > 0
         && head.options.align_height > 0
         && head.options.large >= head.options.small

@@ -118,9 +118,11 @@ fn buckets_and_sides() {
     }
     assert_eq!(allocate(&mut sheet(1), 0, 1), (4, 0, Rect::ZERO));
     let mut tables = Tables::zero(1, 1);
-    assert_eq!(start(&mut tables, 65_536, 65_536, PLAIN), 0);
+    for side in [1, 65_536, 65_537, i32::MAX] {
+        assert_eq!(start(&mut tables, side, side, PLAIN), 0);
+    }
     let before = tables.clone();
-    assert_eq!(start(&mut tables, 65_537, 1, PLAIN), 3);
+    assert_eq!(start(&mut tables, i32::MIN, 1, PLAIN), 3);
     assert_eq!(start(&mut tables, 1, 0, PLAIN), 3);
     assert_eq!(reset(&mut tables, 1, 1, Options { align_width: 0, ..PLAIN }), 3);
     assert_eq!(reset(&mut tables, 1, 1, Options { small: 257, ..PLAIN }), 3);
@@ -190,13 +192,12 @@ fn order_of_answers() {
     assert_eq!(deallocate(&mut tables, 1 + 16_777_216), 8);
     assert_eq!(deallocate(&mut tables, 16_777_216), 9);
     assert_eq!(deallocate(&mut tables, 0), 10);
-    assert_eq!(grow(&mut tables, 999, 65_537), 11);
-    assert_eq!(grow(&mut tables, 1000, 65_537), 3);
+    assert_eq!(grow(&mut tables, 999, i32::MAX), 11);
     taken(&mut tables, 1000, 1000);
     let mut crowded = started(3, 10, 10, PLAIN);
     taken(&mut crowded, 10, 10);
     let before = crowded.clone();
-    assert_eq!(grow(&mut crowded, 65_537, 20), 3);
+    assert_eq!(grow(&mut crowded, i32::MAX, 20), 7);
     assert_eq!(crowded, before);
     let mut roomy = crowded.clone();
     assert_eq!(grow(&mut roomy, 20, 10), 0);

@@ -135,6 +135,35 @@ fn sheet_sides(list: &mut List) {
     day.deallocate(ticket);
     let tickets = day.take_all([(2, 2), (65_500, 2)]);
     day.free_all(&tickets);
+    longest_sides(list);
+}
+
+/// Sheets with the longest sides of all: every corner up to 2,147,483,647, and areas that the crate can't tell apart.
+fn longest_sides(list: &mut List) {
+    const MOST: i32 = i32::MAX;
+    for (width, height) in [(65_537, 1), (1, 65_537), (MOST, 1), (1, MOST), (MOST, MOST)] {
+        let mut day = Day::plain(list, width, height);
+        let ticket = day.take_whole();
+        day.deallocate(ticket);
+    }
+    let mut day = Day::plain(list, MOST, MOST);
+    let tickets = day.take_all([(MOST - 1, MOST - 1), (1, MOST - 1), (MOST, 1)]);
+    day.free_all(&tickets);
+    day.take_whole();
+    let mut day = Day::plain(list, MOST, MOST);
+    let [a, b, c, d] = day.take_all([(50_000, 60_000), (60_000, 50_000), (1 << 30, 1 << 30), (MOST - 50_000, 60_000)]);
+    day.free_all(&[c, a, d, b]);
+    let mut day = Day::plain(list, 1, 1);
+    day.grow(MOST, MOST);
+    let ticket = day.take_whole();
+    day.deallocate(ticket);
+    let mut day = Day::plain(list, 3, 5);
+    let a = day.take(2, 5);
+    day.grow(MOST - 1, 5);
+    let b = day.take(70_000, 3);
+    day.grow(MOST, MOST);
+    day.free_all(&[a, b]);
+    day.take_whole();
 }
 
 /// The crate's own tests of the allocator, apart from the long random one (the mixes are of its kind).

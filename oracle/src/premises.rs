@@ -5,8 +5,6 @@
 use crate::view::{leaves, NodeKind, State};
 use crate::{size2, AllocatorOptions, Rectangle, Size};
 
-/// The longest side of a sheet.
-pub const LONGEST: i32 = 65_536;
 /// The slots of the tables that the list is run on.
 pub const SLOTS: usize = 256;
 /// The entries of each list's table: more than any list here grows to, so that none is ever swept.
@@ -14,7 +12,7 @@ pub const ENTRIES: usize = 1_024;
 
 /// Start and reset: 01 accepts the setup.
 pub fn setup(size: Size, options: &AllocatorOptions) {
-    assert!((1..=LONGEST).contains(&size.width) && (1..=LONGEST).contains(&size.height), "sheet {size:?}");
+    assert!(size.width > 0 && size.height > 0, "sheet {size:?}");
     assert!(options.alignment.width > 0 && options.alignment.height > 0, "alignment {options:?}");
     assert!(options.large_size_threshold >= options.small_size_threshold, "thresholds {options:?}");
 }

@@ -229,7 +229,7 @@ fn whole(k: u32) -> Order {
     }
 }
 
-// 100x100, a grow to 3000x3000, then 1000x2900; and a grow to a smaller and to an invalid size.
+// 100x100, a grow to 3000x3000, then 1000x2900; and a grow to a smaller size and to the largest.
 fn larger(k: u32) -> Order {
     match k {
         0 => Order::Start(square(1000), aligned(1, 1)),
@@ -237,7 +237,7 @@ fn larger(k: u32) -> Order {
         2 => Order::Grow(square(3000)),
         4 => Order::Take(1000, 2900),
         5 => Order::Grow(square(2999)),
-        6 => Order::Grow(square(65537)),
+        6 => Order::Grow(square(2147483647)),
         _ => Order::Look,
     }
 }
@@ -414,6 +414,7 @@ fn sides() {
     sheet(1);
     sheet(65536);
     sheet(65537);
+    sheet(2147483647);
     sheet(0);
     sheet(-1);
 }

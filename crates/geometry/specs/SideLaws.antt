@@ -41,6 +41,10 @@ sheet-side n = (
   λ h. rw (above-zero n .1 (h .0), le-leb n largestSide (h .1)),
 )
 
+-- Of the numbers that arrive, which are below 2^31, all above 0 are sheet sides: only 0 and below are not.
+pub any-side : (n : ℕ) → n < 2 ^ 31 → (sheetSide n ≡ true) ↔ (0 < n)
+any-side n h = (λ e. sheet-side n .0 e .0, λ p. sheet-side n .1 (p, omega arith))
+
 -- The numbers of a valid setup, whose alignment is in the range of an i32 as `setup_of` says.
 pub valid-setup : (sheet : Size) (options : AllocatorOptions) → validSetup sheet options ≡ true →
     natural (options .alignment .width) < 2 ^ 31 → natural (options .alignment .height) < 2 ^ 31 →

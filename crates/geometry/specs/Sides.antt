@@ -17,7 +17,7 @@ natural (negsuc n) = 0
 
 -- The largest side that a sheet may have.
 abbrev pub largestSide : ℕ
-largestSide = 65536
+largestSide = 2147483647
 
 -- Sheet sides are 1 to the largest.
 unfoldable pub sheetSide : ℕ → Bool

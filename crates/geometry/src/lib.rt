@@ -79,7 +79,7 @@ pub fn natural(s: i32) -> u32
 }
 
 // The largest side of a sheet.
-pub const LARGEST_SIDE: u32 = 65536;
+pub const LARGEST_SIDE: u32 = 2147483647;
 
 // Whether a sheet may have this side.
 fn is_sheet_side(side: u32) -> bool

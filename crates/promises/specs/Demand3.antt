@@ -6,11 +6,14 @@
 use mathlib.Core.Path.{_≡_, refl, ap, sym, _∙_}
 use mathlib.Core.List.{List}
 use mathlib.Core.Logic.{_↔_, inl, inr}
-use Prim.Native.Nat.{ℕ, _+_, _*_, _<_}
+use Prim.Native.Nat.{ℕ, _+_, _*_, _^_, _<_}
+use native.Mathlib.Nat.{mul-le-mul}
 use native.Mathlib.Omega.{arith}
 use native.Mathlib.Decide.{ℕ-discrete}
 use Rattle.geometry.specs.Measures.{areaOf}
-use Rattle.geometry.specs.Sides.{natural}
+use Rattle.geometry.specs.Sides.{natural, validSetup}
+use Rattle.geometry.specs.SideLaws.{sheet-side}
+use Rattle.geometry.specs.TestLaws.{and-true-each}
 use Rattle.geometry.specs.declared.AllocatorOptions.{AllocatorOptions}
 use Rattle.geometry.specs.declared.Extent.{Extent}
 use Rattle.geometry.specs.declared.Size.{Size}
@@ -54,6 +57,14 @@ rectangles-are-apart s S = leaves-apart S
 pub areas-make-the-sheet : (s : State) → Sound s
     → sumSlots (allocMeasure areaOf) s + sumSlots (freeMeasure areaOf) s ≡ natural (s .head .sheet .width) * natural (s .head .sheet .height)
 areas-make-the-sheet s S = sheet-area S
+
+-- THE TOTAL is below 2^62, whatever the sheet.
+pub areas-fit : (s : State) → Sound s → sumSlots (allocMeasure areaOf) s + sumSlots (freeMeasure areaOf) s < 2 ^ 62
+unfolding validSetup
+areas-fit s S =
+    let a = and-true-each _ _ (S .rule1 .valid) in
+    let b = and-true-each _ _ (a .1) in
+    rw (areas-make-the-sheet s S) (omega (arith, mul-le-mul (sheet-side _ .0 (a .0) .1) (sheet-side _ .0 (b .0) .1)))
 
 -- NO SPACE. On sound tables, past 4 and 5, where the rounded request is e, 6 is given exactly when no Free rectangle is as wide and as tall as e.
 pub no-space-is-exact : (z : Size) (s : State) (k : ℕ) (t : State) (e : Extent) → LentOf s → Sound s → asks s z ≡ Of e → Leaves (Allocate z) s k t
