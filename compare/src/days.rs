@@ -237,8 +237,9 @@ pub fn day(seed: u64) -> Counts {
     }
     day.beside.list();
     day.free_all();
-    let size = day.beside.seen.size;
-    if day.beside.has_entries() && day.make(Call::Allocate(size.width, size.height))[0] == 0 {
+    let (size, alignment) = (day.beside.seen.size, day.beside.seen.options.alignment);
+    let whole = (roundable(alignment.width, size.width), roundable(alignment.height, size.height));
+    if day.beside.has_entries() && day.make(Call::Allocate(whole.0, whole.1))[0] == 0 {
         day.live = day.beside.tickets();
         day.free_all();
     }
