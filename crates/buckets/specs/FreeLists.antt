@@ -5,8 +5,8 @@ use Prim.Native.Nat.{ℕ, _≤_}
 use lib.ListN.{length}
 use Rattle.geometry.specs.declared.Bucket.{Bucket}
 use Rattle.geometry.specs.declared.Bucket.the-variants.{Small, Medium, Large}
-use Rattle.lists.specs.Lists.{Bag, bag, appended, removed, firstOf}
-use Rattle.pushes.specs.Pushes.{swept, pushed}
+use Rattle.lists.specs.Lists.{Bag, bag, removed, firstOf}
+use Rattle.pushes.specs.Pushes.{pushed}
 use Rattle.buckets.specs.declared.Lengths.{Lengths}
 use Rattle.lists.specs.declared.Found.{Found}
 use Rattle.lists.specs.declared.Found.the-variants.{At, Nothing}

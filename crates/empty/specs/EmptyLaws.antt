@@ -8,14 +8,12 @@ use native.Mathlib.Omega.{arith}
 use native.Mathlib.Decide.{ℕ-discrete}
 use Rattle.geometry.specs.Rectangles.{flip}
 use Rattle.geometry.specs.declared.Orientation.{Orientation}
-use Rattle.geometry.specs.declared.Rectangle.{Rectangle}
 use Rattle.slots.specs.declared.NodeKind.{NodeKind}
 use Rattle.slots.specs.declared.NodeKind.the-variants.{Container, Alloc, Free, Unused}
 use Rattle.steps.specs.State.{State}
 use Rattle.sound.specs.View.{Link, none, to, Seen, seen, Live}
-use Rattle.sound.specs.Rules.{Leaf, PlaceSlot, own, children, PlaceChain, last, more}
+use Rattle.sound.specs.Rules.{Leaf}
 use Rattle.sound.specs.Sound.{Sound, sheetOf}
-use Rattle.sound.specs.ViewLaws.{to-inj, no-link}
 use Rattle.sound.specs.ViewLaws.{to-inj, no-link}
 use Rattle.forest.specs.Pigeon.{In, Distinct}
 use Rattle.forest.specs.Forest as forest
@@ -24,7 +22,7 @@ use Rattle.forest.specs.Bridge as bridge
 use Rattle.forest.specs.Back.{distinct-left, distinct-apart, in-live}
 use Rattle.links.specs.TestLaws.{Says, says-as}
 use Rattle.lone.specs.Lone.{loneFree}
-use Rattle.lone.specs.LoneLaws.{lone-says}
+use Rattle.lone.specs.LoneLaws.{lone-says, lone-rect}
 use Rattle.cover.specs.Sums.{rectAt}
 use Rattle.cover.specs.Covered.{leaves-apart, ticket-on-sheet}
 use Rattle.empty.specs.Empty.{WholeFree, OnlyFree}
@@ -33,15 +31,6 @@ use Rattle.empty.specs.Empty.{WholeFree, OnlyFree}
 free-not : {k : NodeKind} {G : Type 0} → k ≡ Free → (k ≡ Alloc) ⊎ (k ≡ Container) → G
 free-not e (inl d) = absurd (let z : _≡_ {A = ℕ} 0 1 = cc in omega arith)
 free-not e (inr d) = absurd (let z : _≡_ {A = ℕ} 0 1 = cc in omega arith)
-
--- A Free slot alone in its chain has the chain's place for its rectangle.
-lone-rect : {get : ℕ → Seen} {n i : ℕ} {r : Rectangle} → PlaceChain get n i r → get i .kind ≡ Free → get i .next ≡ none → get i .rect ≡ r
-lone-rect (last x p) k e = own-rect p k
-  where
-    own-rect : {get : ℕ → Seen} {n i : ℕ} {r : Rectangle} → PlaceSlot get n i r → get i .kind ≡ Free → get i .rect ≡ r
-    own-rect (own l q) k = refl
-    own-rect (children c f p) k = free-not k (inr c)
-lone-rect (more x p q a) k e = absurd (no-link (sym e ∙ x))
 
 module _ (get : ℕ → Seen) (n : ℕ) where
   -- The first slot of a chain, with what is below it, holds an Alloc or Free slot.

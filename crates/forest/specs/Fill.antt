@@ -58,7 +58,7 @@ module _ (get : ℕ → Seen) where
       go (slot j B U) e rec x = rw (e .3) (join-not-empty (get i .orientation) (h .0) (e .0) (e .2) x (rec (e .0) (e .1)))
 
 -- A rectangle by an orientation.
-as-span : (o : Orientation) (r : Rectangle) → r ≡ span o (start o r) (end o r) (start (flip o) r) (end (flip o) r)
+pub as-span : (o : Orientation) (r : Rectangle) → r ≡ span o (start o r) (end o r) (start (flip o) r) (end (flip o) r)
 as-span Vertical r = refl
 as-span Horizontal r = refl
 

@@ -107,6 +107,7 @@ module _ (s : State) (all : Rectangle) (L : LentOf s) (S : Fills s all) (i : All
     kind = λ j m. was j m .0;
     next = λ j d m. ap (λ (z : Seen). z .next) (writes .other j (⊎-elim (λ e. false≢true (sym (d .1) ∙ rw e (lv .1))) m));
     rect = λ j m a. was j m .1;
+    wider = λ j m a. rw (was j m .1) (omega arith, omega arith);
   }
 
   -- and the new entry.

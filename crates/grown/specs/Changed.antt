@@ -30,10 +30,10 @@ use Rattle.granted.specs.Outcomes.{outcome-lent}
 use Rattle.granted.specs.SoundFacts.{setupAt}
 use Rattle.granted.specs.Stocked.{Stocked, stocked-entry}
 use Rattle.grows.specs.Grows.{withRoot}
-use Rattle.grown.specs.Fills.{Fills, Carries}
+use Rattle.grown.specs.Fills.{Fills, NoSmaller, Carries}
 
 -- What a step makes of a slot table w, with n slots after it and a new place of the top chain: the new slots are Containers or Free, every
--- other slot keeps its kind, an Unused one its next and an Alloc one its rectangle.
+-- other slot keeps its kind, an Unused one its next and an Alloc one its rectangle, and no Free one gets smaller.
 pub record Change (w w′ : List ℕ) (n root : ℕ) (new : List ℕ) (all : Rectangle) : Type 0 where
   pub grown : Grown (seen w′) n root all
   pub merged : Merged (seen w′) n
@@ -42,6 +42,7 @@ pub record Change (w w′ : List ℕ) (n root : ℕ) (new : List ℕ) (all : Rec
   pub kind : (j : ℕ) → (In j new → ⊥) → seen w′ j .kind ≡ seen w j .kind
   pub next : (j : ℕ) → Dead (seen w) n j → (In j new → ⊥) → seen w′ j .next ≡ seen w j .next
   pub rect : (j : ℕ) → (In j new → ⊥) → seen w j .kind ≡ Alloc → seen w′ j .rect ≡ seen w j .rect
+  pub wider : (j : ℕ) → (In j new → ⊥) → seen w j .kind ≡ Free → NoSmaller (seen w j .rect) (seen w′ j .rect)
 
 -- A chain that two tables agree on ends in both after as many steps.
 ends-same : (f f′ : ℕ → Link) (l : Link) (k : ℕ) → ((j : ℕ) → Visits f j l → f′ j ≡ f j) → EndsIn f l k → EndsIn f′ l k
@@ -106,4 +107,5 @@ module _ {s : State} {w′ g′ new : List ℕ} {h′ : Head} {all was : Rectang
         generations = λ j v. T .others j (λ m. T .taken .idle j m v);
         allocs = λ j b a. let out : In j new → ⊥ = λ m. T .taken .idle j m (b, ap inUse a) in (C .kind j out ∙ a, C .rect j out a);
         only = λ j b a. let out : In j new → ⊥ = λ m. not-alloc a (C .new-kind j m) in (T .taken .counted j b out, sym (C .kind j out) ∙ a);
+        frees = λ j b f. let out : In j new → ⊥ = λ m. T .taken .idle j m (b, ap inUse f) in (C .kind j out ∙ f, C .wider j out f);
       }

@@ -143,6 +143,7 @@ module _ (s : State) (all : Rectangle) (L : LentOf s) (S : Fills s all) (t : Rec
     kind = λ j m. was j m .kind;
     next = λ j d m. was j m .next;
     rect = λ j m a. was j m .rect;
+    wider = λ j m a. rw (was j m .rect) (omega arith, omega arith);
   }
 
   -- and the new entry.

@@ -1,9 +1,10 @@
 -- Tables that are sound but for what the top chain fills, and what each step of a grow keeps.
 -- Assumes nothing.
-use Prim.Native.Nat.{ℕ, _+_, _<_}
+use Prim.Native.Nat.{ℕ, _+_, _≤_, _<_}
 use mathlib.Core.Path.{_≡_, refl, _∙_, ap}
 use native.Mathlib.Omega.{arith}
 use lib.ListN.{getD}
+use Rattle.geometry.specs.Rectangles.{widthOf, heightOf}
 use Rattle.geometry.specs.declared.Rectangle.{Rectangle}
 use Rattle.slots.specs.declared.NodeKind.the-variants.{Alloc, Free}
 use Rattle.steps.specs.State.{State}
@@ -36,7 +37,12 @@ fills-sound F e =
       rule7 = F .rule7;
     }
 
--- A step that takes k spare slots: each live slot stays live with its generation, each Alloc slot with its rectangle, and no slot turns Alloc.
+-- A rectangle is as wide and as tall as another.
+abbrev pub NoSmaller : Rectangle → Rectangle → Type 0
+NoSmaller r q = (widthOf r ≤ widthOf q) × (heightOf r ≤ heightOf q)
+
+-- A step that takes k spare slots: each live slot stays live with its generation, each Alloc slot with its rectangle, each Free slot with one that is no
+-- smaller, and no slot turns Alloc.
 pub record Carries (s t : State) (k : ℕ) : Type 0 where
   pub lent : LentOf t
   pub sheet : t .head .sheet ≡ s .head .sheet
@@ -46,6 +52,7 @@ pub record Carries (s t : State) (k : ℕ) : Type 0 where
   pub generations : (j : ℕ) → Live (seen (s .words)) (s .head .count) j → getD (t .generations) j 0 ≡ getD (s .generations) j 0
   pub allocs : (j : ℕ) → j < s .head .count → seen (s .words) j .kind ≡ Alloc → (seen (t .words) j .kind ≡ Alloc) × (seen (t .words) j .rect ≡ seen (s .words) j .rect)
   pub only : (j : ℕ) → j < t .head .count → seen (t .words) j .kind ≡ Alloc → (j < s .head .count) × (seen (s .words) j .kind ≡ Alloc)
+  pub frees : (j : ℕ) → j < s .head .count → seen (s .words) j .kind ≡ Free → (seen (t .words) j .kind ≡ Free) × NoSmaller (seen (s .words) j .rect) (seen (t .words) j .rect)
 
 -- No step.
 pub carries-same : {s : State} → LentOf s → Carries s s 0
@@ -58,6 +65,7 @@ carries-same L = record {
   generations = λ j l. refl;
   allocs = λ j l a. (a, refl);
   only = λ j l a. (l, a);
+  frees = λ j l f. (f, (omega arith, omega arith));
 }
 
 -- One step after another.
@@ -71,6 +79,10 @@ carries-both A B = record {
   generations = λ j l. B .generations j (A .lives j l) ∙ A .generations j l;
   allocs = λ j l a. let x = A .allocs j l a in let y = B .allocs j (A .lives j (l, ap inUse a) .0) (x .0) in (y .0, y .1 ∙ x .1);
   only = λ j l a. let x = B .only j l a in A .only j (x .0) (x .1);
+  frees = λ j l f.
+      let x = A .frees j l f in
+      let y = B .frees j (A .lives j (l, ap inUse f) .0) (x .0) in
+      (y .0, (omega (arith, x .1 .0, y .1 .0), omega (arith, x .1 .1, y .1 .1)));
 }
 
 -- The root is one Free slot without next.

@@ -2,7 +2,9 @@
 -- Assumes nothing but that.
 use Prim.Native.Nat.{ℕ, _<_}
 use mathlib.Core.Path.{_≡_, sym, _∙_, ap}
+use native.Mathlib.Omega.{arith}
 use Rattle.geometry.specs.Sides.{natural}
+use Rattle.geometry.specs.declared.Extent.{Extent}
 use Rattle.geometry.specs.declared.Size.{Size}
 use Rattle.tickets.specs.Tickets.{slotOf}
 use Rattle.steps.specs.State.{State}
@@ -11,6 +13,7 @@ use Rattle.sound.specs.Sound.{Sound, sheetOf}
 use Rattle.lent.specs.Lent.{LentOf}
 use Rattle.cover.specs.Covered.{point-has-one-slot}
 use Rattle.cover.specs.Sums.{LeafAt, rectAt, InRect}
+use Rattle.granted.specs.Terms.{Roomy}
 use Rattle.grows.specs.Grows.{grown}
 use Rattle.grown.specs.Fills.{fills-sound}
 use Rattle.grown.specs.Terms.{GrowDue, Grows}
@@ -40,6 +43,14 @@ module _ (s : State) (new : Size) (L : LentOf s) (S : Sound s) (G : GrowDue s ne
         generations = c .generations;
         spares = c .spares;
       }
+
+  -- ROOM. A Free slot that took a request takes it still.
+  pub grown-roomy : (e : Extent) (x : ℕ) → Roomy s e x → Roomy (grown s new) e x
+  unfolding seen
+  grown-roomy e x (b, z) =
+      let c = grown-steps s new L S G .1 in
+      let f = c .frees x b (z .free) in
+      (c .lives x (b, ap inUse (z .free)) .0, record { free = f .0; wide = omega (arith, z .wide, f .1 .0); tall = omega (arith, z .tall, f .1 .1) })
 
   -- COVERED ONCE. Each point of the new sheet lies in the rectangle of an Alloc or Free slot, and of no other one.
   pub grown-covers-once : (x y : ℕ) → x < natural (new .width) → y < natural (new .height)

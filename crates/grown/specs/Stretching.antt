@@ -7,6 +7,8 @@ use mathlib.Core.Logic.{inl, inr, ⊎-elim}
 use mathlib.Core.List.{List, []}
 use native.Mathlib.Omega.{arith}
 use native.Mathlib.Decide.{ℕ-discrete}
+use Rattle.geometry.specs.declared.Orientation.{Orientation}
+use Rattle.geometry.specs.declared.Orientation.the-variants.{Vertical, Horizontal}
 use Rattle.geometry.specs.declared.Rectangle.{Rectangle}
 use Rattle.slots.specs.declared.AllocIndex.{AllocIndex}
 use Rattle.slots.specs.declared.NodeKind.the-variants.{Free}
@@ -19,6 +21,7 @@ use Rattle.sound.specs.Rules.{NotEmpty, Adjoin, join}
 use Rattle.changes.specs.Stretches.{Grown}
 use Rattle.changes.specs.Grows.{Stretch, lone-grows, stretch-grows}
 use Rattle.changes.specs.TidyGrows.{stretch-merged}
+use Rattle.lone.specs.LoneLaws.{lone-rect}
 use Rattle.lent.specs.Lent.{LentOf}
 use Rattle.granted.specs.NewSlots.{start-taking}
 use Rattle.granted.specs.SoundFacts.{setupAt, lent-few, lent-slots, lent-room}
@@ -27,7 +30,7 @@ use Rattle.granted.specs.Carved.{piece}
 use Rattle.granted.specs.Writes.{seen-same, seen-other}
 use Rattle.moves.specs.Moves.{moved}
 use Rattle.grows.specs.Grows.{stretched}
-use Rattle.grown.specs.Fills.{Fills, Carries, Lone, Roots}
+use Rattle.grown.specs.Fills.{Fills, NoSmaller, Carries, Lone, Roots}
 use Rattle.grown.specs.Changed.{not-alloc, Change, change-fills, change-carries}
 use Rattle.grown.specs.Restock.{forget-stocks}
 
@@ -49,8 +52,9 @@ module _ (s : State) (all : Rectangle) (L : LentOf s) (S : Fills s all) (i : All
   stretch-writes = rect-writes (s .words) i r (let e = L .eight in let f = S .rule1 .fits in let z = lv .0 in omega arith) free
 
   -- what it changes,
-  stretch-changes : {now : Rectangle} → Grown (seen w′) (s .head .count) (s .head .root .0) now → Change (s .words) w′ (s .head .count) (s .head .root .0) [] now
-  stretch-changes G =
+  stretch-changes : {now : Rectangle} → NoSmaller (seen (s .words) (i .0) .rect) r → Grown (seen w′) (s .head .count) (s .head .root .0) now
+      → Change (s .words) w′ (s .head .count) (s .head .root .0) [] now
+  stretch-changes large G =
       let op = stretch-writes in
       record {
         grown = G;
@@ -60,8 +64,13 @@ module _ (s : State) (all : Rectangle) (L : LentOf s) (S : Fills s all) (i : All
         kind = λ j m. by j (ℕ-discrete j (i .0));
         next = λ j d m. ap (λ (z : Seen). z .next) (op .other j (⊎-elim (λ e. false≢true (sym (d .1) ∙ rw e (lv .1))) (λ z. z)));
         rect = λ j m a. ap (λ (z : Seen). z .rect) (op .other j (⊎-elim (λ e. not-alloc (rw e at a) (inr free)) (λ z. z)));
+        wider = λ j m a. large-by j (ℕ-discrete j (i .0));
       }
     where
+      large-by : (j : ℕ) → Dec (j ≡ i .0) → NoSmaller (seen (s .words) j .rect) (seen w′ j .rect)
+      large-by j (yes e) = rw (e, stretch-writes .chosen) large
+      large-by j (no e) = rw (stretch-writes .other j (⊎-elim e (λ z. z))) (omega arith, omega arith)
+
       by : (j : ℕ) → Dec (j ≡ i .0) → seen w′ j .kind ≡ seen (s .words) j .kind
       by j (yes e) = rw e (ap (λ (z : Seen). z .kind) (stretch-writes .chosen) ∙ sym free)
       by j (no e) = ap (λ (z : Seen). z .kind) (stretch-writes .other j (⊎-elim e (λ z. z)))
@@ -75,21 +84,28 @@ module _ (s : State) (all : Rectangle) (L : LentOf s) (S : Fills s all) (i : All
       (piece (i .0) r) (forget-stocks (i .0) (listed-stocked (S .rule1) (S .rule6)) (stretch-writes .other)) (lv .0) (ap (λ (z : Seen). z .rect) (stretch-writes .chosen))
 
   -- A STRETCH that takes the top chain to a new place keeps every rule.
-  pub stretch-steps : {now : Rectangle} → Grown (seen w′) (s .head .count) (s .head .root .0) now → Fills (stretched s i r) now × Carries s (stretched s i r) 0
+  pub stretch-steps : {now : Rectangle} → NoSmaller (seen (s .words) (i .0) .rect) r → Grown (seen w′) (s .head .count) (s .head .root .0) now
+      → Fills (stretched s i r) now × Carries s (stretched s i r) 0
   unfolding stretched
-  stretch-steps G =
+  stretch-steps large G =
       let T = start-taking (s .words) (s .generations) (s .head) (S .rule2) (S .rule1 .fits) in
-      (change-fills L S T (s .head .root) (stretch-changes G) entry-moves, change-carries L S T (s .head .root) (stretch-changes G) entry-moves)
+      let C = stretch-changes large G in
+      (change-fills L S T (s .head .root) C entry-moves, change-carries L S T (s .head .root) C entry-moves)
 
--- A LONE FREE ROOT may get any rectangle.
-pub lone-steps : (s : State) (all : Rectangle) → LentOf s → Fills s all → (q : Rectangle) → NotEmpty q
+-- A LONE FREE ROOT, whose rectangle is all that the top chain fills, may get any that is no smaller.
+pub lone-steps : (s : State) (all : Rectangle) → LentOf s → Fills s all → (q : Rectangle) → NotEmpty q → NoSmaller all q
     → seen (s .words) (s .head .root .0) .kind ≡ Free → seen (s .words) (s .head .root .0) .next ≡ none
     → Fills (stretched s (s .head .root) q) q × Carries s (stretched s (s .head .root) q) 0
-lone-steps s all L S q some free x =
+lone-steps s all L S q some large free x =
     let lv = S .rule3 .near .root-live in
-    stretch-steps s all L S (s .head .root) q lv free
+    stretch-steps s all L S (s .head .root) q lv free (rw (lone-rect (S .rule5) free x) large)
     (lone-grows (seen (s .words)) (seen (stored (s .words) (s .head .root) (toRect q))) (s .head .count) (s .head .root .0) (S .rule3) all (S .rule5)
     q (stretch-writes s all L S (s .head .root) q lv free) free x some)
+
+-- A rectangle joined with one that adjoins it is no smaller.
+joined-larger : (o : Orientation) (r t : Rectangle) → NotEmpty t → Adjoin o r t → NoSmaller r (join r t)
+joined-larger Vertical r t some ad = (omega (arith, ad .2), omega (arith, ad .0, some .1))
+joined-larger Horizontal r t some ad = (omega (arith, ad .0, some .0), omega (arith, ad .2))
 
 -- THE LAST SLOT of the top chain, if Free, may be stretched.
 pub last-steps : (s : State) (all : Rectangle) → LentOf s → Fills s all → (i : AllocIndex) (t : Rectangle) → Live (seen (s .words)) (s .head .count) (i .0)
@@ -101,7 +117,7 @@ last-steps s all L S i t lv free p x some ad =
     let q = join (seen (s .words) (i .0) .rect) t in
     let g = stretch-grows (seen (s .words)) (seen (stored (s .words) i (toRect q))) (s .head .count) (s .head .root .0) (S .rule3) all (S .rule5)
     (i .0) t (stretch-writes s all L S i q lv free) lv free p x some ad in
-    let z = stretch-steps s all L S i q lv free (g .1) in
+    let z = stretch-steps s all L S i q lv free (joined-larger (seen (s .words) (i .0) .orientation) (seen (s .words) (i .0) .rect) t some ad) (g .1) in
     (g .0, z .0, z .1)
 
 -- The root is another slot, if it is no lone Free one.

@@ -3,6 +3,7 @@
 use Prim.Native.Nat.{_+_, _≤_}
 use mathlib.Core.Path.{_≡_, refl}
 use mathlib.Core.Bool.{Bool, true, false}
+use native.Mathlib.Omega.{arith}
 use Rattle.geometry.specs.Choice.{pick}
 use Rattle.geometry.specs.Sides.{setupOf}
 use Rattle.geometry.specs.declared.Size.{Size}
@@ -62,5 +63,5 @@ module _ (s : State) (new : Size) (L : LentOf s) (S : Sound s) (G : GrowDue s ne
           → Fills (pick b (stretched t (s .head .root) (sheetOf new)) (grownBoth t (s .head .sheet) new)) (sheetOf new)
           × Carries t (pick b (stretched t (s .head .root) (sheetOf new)) (grownBoth t (s .head .sheet) new))
           (pick b 0 (needsAlong t (s .head .sheet) new + needsAcross t (s .head .sheet) new))
-      go true e h = let z = lone-says (s .words) (s .head .root) .0 e in lone-steps t (sheetOf (s .head .sheet)) L begins (sheetOf new) some (z .0) (z .1)
+      go true e h = let z = lone-says (s .words) (s .head .root) .0 e in lone-steps t (sheetOf (s .head .sheet)) L begins (sheetOf new) some (omega (arith, G .wide), omega (arith, G .tall)) (z .0) (z .1)
       go false e h = both-steps t (s .head .sheet) new L begins (fails (lone-says (s .words) (s .head .root)) e) (G .wide) (G .tall) h

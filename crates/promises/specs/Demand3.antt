@@ -17,7 +17,6 @@ use Rattle.geometry.specs.TestLaws.{and-true-each}
 use Rattle.geometry.specs.declared.AllocatorOptions.{AllocatorOptions}
 use Rattle.geometry.specs.declared.Extent.{Extent}
 use Rattle.geometry.specs.declared.Size.{Size}
-use Rattle.rounding.specs.declared.Request.{Request}
 use Rattle.rounding.specs.declared.Request.the-variants.{Of}
 use Rattle.tickets.specs.Tickets.{slotOf}
 use Rattle.tickets.specs.declared.AllocId.{AllocId}
@@ -28,7 +27,7 @@ use Rattle.sound.specs.LiveTickets.{LiveTicket}
 use Rattle.lent.specs.Lent.{LentOf}
 use Rattle.cover.specs.Covered.{sheet-area, leaves-apart, point-has-one-slot}
 use Rattle.cover.specs.Sums.{allocMeasure, freeMeasure, sumSlots, LeafAt, rectAt, InRect}
-use Rattle.starts.specs.Starts.{startCall, clearCall}
+use Rattle.starts.specs.Starts.{clearCall}
 use Rattle.starts.specs.StartSound.{start-leaves-sound, start-keeps-lent, clear-leaves-sound}
 use Rattle.empty.specs.EmptyWhen.{empty-changes-nothing}
 use Rattle.outcomes.specs.Given.{Given}

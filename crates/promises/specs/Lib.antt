@@ -4,3 +4,4 @@ pub mod Demand1
 pub mod When
 pub mod Demand2
 pub mod Demand3
+pub mod NeverHurts
