@@ -63,7 +63,9 @@ unfolding validSetup
 areas-fit s S =
     let a = and-true-each _ _ (S .rule1 .valid) in
     let b = and-true-each _ _ (a .1) in
-    rw (areas-make-the-sheet s S) (omega (arith, mul-le-mul (sheet-side _ .0 (a .0) .1) (sheet-side _ .0 (b .0) .1)))
+    let w = sheet-side (natural (s .head .sheet .width)) .0 (a .0) .1 in
+    let t = sheet-side (natural (s .head .sheet .height)) .0 (b .0) .1 in
+    rw (areas-make-the-sheet s S) (omega (arith, mul-le-mul w t))
 
 -- NO SPACE. On sound tables, past 4 and 5, where the rounded request is e, 6 is given exactly when no Free rectangle is as wide and as tall as e.
 pub no-space-is-exact : (z : Size) (s : State) (k : ℕ) (t : State) (e : Extent) → LentOf s → Sound s → asks s z ≡ Of e → Leaves (Allocate z) s k t

@@ -5,3 +5,4 @@ pub mod When
 pub mod Demand2
 pub mod Demand3
 pub mod NeverHurts
+pub mod Sizes
