@@ -1,4 +1,6 @@
 // Deallocate in the slot table: two Free siblings become one.
+#![tactic(auto)]
+
 ghost use Rattle.std.specs.Prelude.{◌≡◌};
 ghost use Rattle.pairs.specs.Pairs.{LinkHas};
 ghost use Rattle.frees.specs.Climbs.{level, absorbed, is_free, next_absorbed, absorbed_by_prev};

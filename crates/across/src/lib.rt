@@ -1,4 +1,6 @@
 // Grow across the root's orientation: a Free slot is taken, then a new zero-rectangle root over the old top chain.
+#![tactic(auto)]
+
 ghost use Rattle.std.specs.Prelude.{◌≡◌};
 ghost use Rattle.pairs.specs.Pairs.{two, two_nodes};
 ghost use Rattle.steps.specs.State.{state};

@@ -1,4 +1,6 @@
 // Whether our state is the one that the list tells of, wherever that says anything: below the slot count and the lengths.
+#![tactic(auto)]
+
 ghost use Rattle.std.specs.Prelude.{◌≤◌, length};
 
 use buckets::Lengths;

@@ -1,4 +1,6 @@
 // Allocate: the check, the rounding, and the call on sound tables.
+#![tactic(auto)]
+
 ghost use Rattle.steps.specs.State.{state};
 ghost use Rattle.outcomes.specs.Given.{given};
 ghost use Rattle.allocate.specs.Allocate.{crop, AllocateCall};

@@ -1,4 +1,6 @@
 // Grow along the root's orientation: the last slot of the top chain is stretched if it is Free, else a Free slot is appended to it.
+#![tactic(auto)]
+
 ghost use Rattle.std.specs.Prelude.{◌≡◌};
 ghost use Rattle.steps.specs.State.{state};
 ghost use Rattle.grows.specs.Grows.{grown_along};

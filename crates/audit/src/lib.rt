@@ -1,4 +1,6 @@
 // The check of the tables: the lowest-numbered rule of soundness that is broken, and where.
+#![tactic(auto)]
+
 ghost use Rattle.std.specs.Prelude.{length};
 ghost use Rattle.steps.specs.State.{state};
 ghost use Rattle.lent.specs.Lent.{Lent};

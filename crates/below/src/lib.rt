@@ -1,4 +1,6 @@
 // The last words of rule 1, of one list: whether its entries are below n, and the lowest that is not.
+#![tactic(auto)]
+
 ghost use Rattle.std.specs.Prelude.{◌≡◌, true, ◌&&◌, ◌≤◌, ◌<◌, length};
 ghost use Rattle.lists.specs.Lists.{bag, Each};
 ghost use Rattle.below.specs.Below.{first_from, entry_below};

@@ -1,4 +1,6 @@
 // The chosen slot of a cut: it turns Alloc, and split becomes its next sibling.
+#![tactic(auto)]
+
 ghost use Rattle.std.specs.Prelude.{◌≡◌};
 ghost use Rattle.table.specs.Table.{node_at, HasSlot};
 ghost use Rattle.grants.specs.Carves.{turned, beside};

@@ -1,4 +1,6 @@
 // The three free lists, one for each bucket.
+#![tactic(auto)]
+
 ghost use Rattle.std.specs.Prelude.{◌≡◌, ◌<◌};
 ghost use Rattle.pushes.specs.Pushes.{Pushable};
 ghost use Rattle.buckets.specs.FreeLists.{lists, list_of, pushed_to, removed_from, first_in, entry_of, forgotten, Within};

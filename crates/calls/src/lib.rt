@@ -1,5 +1,7 @@
 // The calls that are replayed, on tables of our own. A start finds them as the call before left them; every other call begins
 // with the state that the list told of.
+#![tactic(auto)]
+
 mod looks;
 mod rebuilt;
 

@@ -1,4 +1,6 @@
 // Allocate in the slot table: the new slots are taken, and written with the chosen slot and its next.
+#![tactic(auto)]
+
 ghost use Rattle.std.specs.Prelude.{◌≡◌};
 ghost use Rattle.grants.specs.Shapes.{slots_needed};
 ghost use Rattle.grants.specs.Carves.{news, news_of, carved};

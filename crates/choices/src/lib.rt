@@ -1,4 +1,6 @@
 // The choice in one bucket: what the scan of its list answers, and whether the search ends there.
+#![tactic(auto)]
+
 ghost use Rattle.std.specs.Prelude.{◌≡◌};
 ghost use Rattle.lists.specs.Lists.{bag};
 ghost use Rattle.buckets.specs.FreeLists.{lists};

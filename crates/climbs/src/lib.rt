@@ -1,4 +1,6 @@
 // Deallocate in the slot table: an only child gives its rectangle up, and the climb.
+#![tactic(auto)]
+
 ghost use Rattle.std.specs.Prelude.{◌≡◌};
 ghost use Rattle.table.specs.Table.{node_at, HasSlot};
 ghost use Rattle.frees.specs.Climbs.{level, is_only_child, given_up, climbed};

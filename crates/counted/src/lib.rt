@@ -1,4 +1,6 @@
 // Rule 1: whether it holds, and the lowest list entry that breaks it.
+#![tactic(auto)]
+
 ghost use Rattle.std.specs.Prelude.{◌≡◌, ◌≤◌, length};
 ghost use Rattle.lists.specs.Lists.{bag};
 ghost use Rattle.buckets.specs.FreeLists.{lists};

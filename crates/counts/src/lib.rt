@@ -1,4 +1,6 @@
 // How many slots are of a kind, and how many are spare.
+#![tactic(auto)]
+
 ghost use Rattle.std.specs.Prelude.{◌≡◌, ◌*◌, ◌≤◌, length};
 ghost use Rattle.table.specs.Table.{HasSlot};
 ghost use Rattle.steps.specs.Spares.{of_kind, count_kind, unused_below, spare_slots};

@@ -1,4 +1,6 @@
 // The cut of a chosen rectangle: what is left of it beside a request.
+#![tactic(auto)]
+
 ghost use Rattle.std.specs.Prelude.{◌≡◌};
 ghost use Rattle.cuts.specs.Cuts.{area_compared, exact_fit, cut_way, split_of, leftover_of, FitsIn, cut_of};
 

@@ -1,4 +1,6 @@
 // The cut of the chosen slot, where enough slots are spare.
+#![tactic(auto)]
+
 ghost use Rattle.std.specs.Prelude.{◌≡◌};
 ghost use Rattle.buckets.specs.FreeLists.{lists};
 ghost use Rattle.steps.specs.State.{state};

@@ -2,6 +2,8 @@
 // the check of the tables against its verdicts. A verdict is a mismatch if the audit names another rule or place, or the
 // check another answer. A line that is out of form, of no known kind, or that names a place or a length that the tables
 // can't have is a fault.
+#![tactic(auto)]
+
 mod edits;
 mod report;
 mod tally;

@@ -1,4 +1,6 @@
 // The paper's ledger of known days, run through the public calls. What it writes is held against the stored file. Thresholds are 32 and 256.
+#![tactic(auto)]
+
 mod show;
 
 ghost use Rattle.std.specs.Prelude.{◌*◌, ◌≤◌, length};

@@ -1,4 +1,6 @@
 // Deallocate: the check, the ticket, and the call on sound tables.
+#![tactic(auto)]
+
 ghost use Rattle.steps.specs.State.{state};
 ghost use Rattle.outcomes.specs.Given.{nothing, given};
 ghost use Rattle.deallocate.specs.Deallocate.{DeallocateCall};

@@ -1,4 +1,6 @@
 // "Is it empty": whether one Free slot is the whole sheet.
+#![tactic(auto)]
+
 ghost use Rattle.steps.specs.State.{state};
 ghost use Rattle.outcomes.specs.Given.{given};
 ghost use Rattle.empty.specs.Empty.{EmptyCall};

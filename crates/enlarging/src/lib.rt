@@ -1,4 +1,6 @@
 // Grow on sound tables: a single Free root stretches; otherwise along the root's orientation, then across it.
+#![tactic(auto)]
+
 ghost use Rattle.std.specs.Prelude.{◌≡◌, ◌<◌};
 ghost use Rattle.steps.specs.State.{state};
 ghost use Rattle.sound.specs.Sound.{Sound};

@@ -1,4 +1,6 @@
 // The entry of a Free slot, in the list of its rectangle's bucket.
+#![tactic(auto)]
+
 ghost use Rattle.std.specs.Prelude.{◌≡◌, ◌≤◌};
 ghost use Rattle.buckets.specs.FreeLists.{lists};
 ghost use Rattle.entries.specs.Entries.{entered, Enterable};

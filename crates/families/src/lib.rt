@@ -1,4 +1,6 @@
 // Rule 3 of one slot: whether it agrees with its parent, with its children and with the root.
+#![tactic(auto)]
+
 ghost use Rattle.std.specs.Prelude.{◌≡◌, ◌<◌, length};
 ghost use Rattle.links.specs.Links.{parent_agrees, child_agrees, first_agrees, root_agrees, family_agrees, NamesSlot, NamesPlace};
 

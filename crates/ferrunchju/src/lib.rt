@@ -1,5 +1,7 @@
 // The library for C and Rust: each public call, over pointers, lengths and numbers. The head is twelve words; what is handed over goes to
 // lent words too. Each contract is the call's own, of the head that the words hold.
+#![tactic(auto)]
+
 ghost use Rattle.std.specs.Prelude.{◌≡◌, ◌≤◌, eqb};
 ghost use Rattle.slots.specs.declared.NodeKind.TheVariants.{Alloc, Free};
 ghost use Rattle.audit.specs.Audited.{Checked};

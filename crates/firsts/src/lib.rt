@@ -1,4 +1,6 @@
 // The table of first children.
+#![tactic(auto)]
+
 ghost use Rattle.std.specs.Prelude.{◌≡◌, ◌≤◌, ◌<◌, length};
 ghost use Rattle.links.specs.Links.{is_first, entered, firsts_to, Table};
 

@@ -1,4 +1,6 @@
 // The scan of one free list for the rectangle that takes a request best.
+#![tactic(auto)]
+
 ghost use Rattle.std.specs.Prelude.{◌≡◌, ◌≤◌, ◌<◌};
 ghost use Rattle.lists.specs.Lists.{bag};
 ghost use Rattle.fits.specs.Scans.{opening, shifted_score, beats, weighed, Open, scanned, look, scan_all, Ready};

@@ -1,1 +1,2 @@
 // The model of deallocate on whole tables: no code.
+#![tactic(auto)]

@@ -1,4 +1,6 @@
 // Sides and setups as they arrive, rectangles and buckets.
+#![tactic(auto)]
+
 ghost use Rattle.std.specs.Prelude.{◌≡◌, ◌<◌, ◌^◌};
 ghost use Rattle.geometry.specs.Choice.{lesser};
 ghost use Rattle.geometry.specs.Sides.{natural, sheet_side, valid_setup, extent_of, setup_of};

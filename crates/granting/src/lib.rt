@@ -1,4 +1,6 @@
 // Allocate on sound tables: the search, and the cut of what it chose.
+#![tactic(auto)]
+
 ghost use Rattle.std.specs.Prelude.{◌≡◌};
 ghost use Rattle.steps.specs.State.{state};
 ghost use Rattle.sound.specs.Sound.{Sound};

@@ -1,4 +1,6 @@
 // The shape of a cut, its slots, and how many new ones it needs.
+#![tactic(auto)]
+
 ghost use Rattle.std.specs.Prelude.{◌≡◌, ◌≤◌};
 ghost use Rattle.grants.specs.Shapes.{shape_of, slots_needed};
 

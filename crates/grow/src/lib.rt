@@ -1,4 +1,6 @@
 // Grow: the check, the refusals, and the call on sound tables.
+#![tactic(auto)]
+
 ghost use Rattle.steps.specs.State.{state};
 ghost use Rattle.outcomes.specs.Given.{nothing, given};
 ghost use Rattle.grow.specs.Grow.{GrowCall};

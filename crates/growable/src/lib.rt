@@ -1,4 +1,6 @@
 // Whether a grow can be done on sound tables: the new slots that it needs, and what it is refused with.
+#![tactic(auto)]
+
 ghost use Rattle.std.specs.Prelude.{◌≡◌, List, ℕ, ◌≤◌};
 ghost use Rattle.geometry.specs.Sides.{natural};
 ghost use Rattle.steps.specs.State.{state};

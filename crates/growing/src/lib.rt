@@ -1,4 +1,6 @@
 // The steps of a grow on the tables: a Free slot gets another rectangle, or a new Free slot follows the last of the top chain.
+#![tactic(auto)]
+
 ghost use Rattle.std.specs.Prelude.{◌≡◌, List, ℕ};
 ghost use Rattle.table.specs.Table.{HasSlot};
 ghost use Rattle.buckets.specs.FreeLists.{lists};

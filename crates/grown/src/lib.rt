@@ -1,2 +1,4 @@
 // What grow promises of sound tables, in mathematics alone: specs/. There is no code here.
+#![tactic(auto)]
+
 pub fn nothing() {}

@@ -1,1 +1,2 @@
 // The model of grow on whole tables: no code.
+#![tactic(auto)]

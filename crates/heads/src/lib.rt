@@ -1,4 +1,6 @@
 // The head as twelve words, and what a call hands over as a few.
+#![tactic(auto)]
+
 ghost use Rattle.std.specs.Prelude.{◌≡◌, ◌≤◌, ◌<◌, ◌^◌, eqb};
 ghost use Rattle.heads.specs.Words.{size_of, options_of, signed_of, size_at, head_at, with_changes, ticket_at, rect_at, ShortLists};
 

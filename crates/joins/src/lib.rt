@@ -1,4 +1,6 @@
 // What a walk found of a chain or a slot, and how two places one after the other are put together.
+#![tactic(auto)]
+
 ghost use Rattle.std.specs.Prelude.{◌≡◌, ◌<◌};
 ghost use Rattle.sound.specs.Rules.{join};
 ghost use Rattle.joins.specs.Joins.{same_rect, adjoins, fits_together, out_of_slots, nothing_yet, own_place, stored_as, together, added};

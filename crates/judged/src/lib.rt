@@ -1,4 +1,6 @@
 // Rules 4 to 7, where rule 3 holds: the lowest-numbered one that is broken, and where.
+#![tactic(auto)]
+
 ghost use Rattle.std.specs.Prelude.{◌≡◌, true};
 ghost use Rattle.judged.specs.Judged.{broken_at, is_whole, is_filled, whole, Prepared, Walked, Judged};
 

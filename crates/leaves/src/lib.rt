@@ -1,4 +1,6 @@
 // The leaves: our functions called with a line's numbers, and each of their answers held against the line's.
+#![tactic(auto)]
+
 ghost use Rattle.std.specs.Prelude.{◌+◌, ◌<◌};
 ghost use Rattle.cuts.specs.Cuts.{FitsIn};
 

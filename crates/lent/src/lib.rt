@@ -1,4 +1,6 @@
 // The lengths of the lent tables.
+#![tactic(auto)]
+
 ghost use Rattle.std.specs.Prelude.{◌≡◌};
 ghost use Rattle.lent.specs.Lent.{list_length, lent_lengths};
 

@@ -1,4 +1,6 @@
 // Rule 3 of one slot: its links are none or name live slots, and it agrees with the slots that they name.
+#![tactic(auto)]
+
 ghost use Rattle.std.specs.Prelude.{◌≡◌, ◌≤◌, ◌<◌, length};
 ghost use Rattle.links.specs.Links.{live_at, link_at, links_sane, links_at, Table};
 

@@ -1,4 +1,6 @@
 // The listing of a kind of slots, into a lent list.
+#![tactic(auto)]
+
 ghost use Rattle.std.specs.Prelude.{◌≡◌, ◌≤◌, length};
 ghost use Rattle.listings.specs.Listings.{entries, written_over, filled, list_answer, list_filled};
 ghost use Rattle.links.specs.Held.{Held};

@@ -1,4 +1,6 @@
 // A list in a lent table, of which the first places are filled: append, swap-remove and first occurrence.
+#![tactic(auto)]
+
 ghost use Rattle.std.specs.Prelude.{◌≡◌, ◌≤◌, ◌<◌, length};
 ghost use Rattle.lists.specs.Lists.{bag, appended, removed, first_of};
 

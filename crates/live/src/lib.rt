@@ -1,4 +1,6 @@
 // What a ticket is on the tables: live, with its rectangle, or refused.
+#![tactic(auto)]
+
 ghost use Rattle.std.specs.Prelude.{◌≡◌};
 ghost use Rattle.live.specs.Live.{ticket_answer, ticket_rect};
 ghost use Rattle.links.specs.Held.{Held};

@@ -1,4 +1,6 @@
 // A single Free root: what grow stretches, and what an empty sheet is.
+#![tactic(auto)]
+
 ghost use Rattle.std.specs.Prelude.{◌≡◌};
 ghost use Rattle.table.specs.Table.{HasSlot};
 ghost use Rattle.lone.specs.Lone.{lone_free};

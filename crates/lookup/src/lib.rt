@@ -1,4 +1,6 @@
 // Ticket lookup: a live ticket's rectangle.
+#![tactic(auto)]
+
 ghost use Rattle.steps.specs.State.{state};
 ghost use Rattle.outcomes.specs.Given.{given};
 ghost use Rattle.lookup.specs.Lookup.{IndexCall};

@@ -1,4 +1,6 @@
 // The marks of rule 6: which slots have an entry in which list, and the test of one slot.
+#![tactic(auto)]
+
 ghost use Rattle.std.specs.Prelude.{◌≡◌, ◌-◌, ◌≤◌, ◌<◌, length};
 ghost use Rattle.table.specs.Table.{HasSlot};
 ghost use Rattle.lists.specs.Lists.{bag, Each};

@@ -1,4 +1,6 @@
 // Rule 2, by the walk along the spare chain, and rule 4 of one slot.
+#![tactic(auto)]
+
 ghost use Rattle.std.specs.Prelude.{◌≡◌, ◌<◌};
 ghost use Rattle.links.specs.Links.{spare_walk, merged_at, Table};
 

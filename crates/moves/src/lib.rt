@@ -1,4 +1,6 @@
 // An entry that moves: a Free slot's, where its rectangle grows.
+#![tactic(auto)]
+
 ghost use Rattle.std.specs.Prelude.{◌≡◌, ◌≤◌};
 ghost use Rattle.table.specs.Table.{HasSlot};
 ghost use Rattle.buckets.specs.FreeLists.{lists};

@@ -1,4 +1,6 @@
 // What a call leaves that hands over nothing but its answer.
+#![tactic(auto)]
+
 use steps::Head;
 
 // A number of the paper's list, and the head after the call.

@@ -1,4 +1,6 @@
 // Two new slots taken and written, one after the other; a link answered by the slot that it names.
+#![tactic(auto)]
+
 ghost use Rattle.std.specs.Prelude.{◌≡◌};
 ghost use Rattle.table.specs.Table.{HasSlot};
 ghost use Rattle.grants.specs.Carves.{answered_by, pair_under};

@@ -1,4 +1,6 @@
 // The pieces of a cut, entered into the free lists: split, then leftover.
+#![tactic(auto)]
+
 ghost use Rattle.std.specs.Prelude.{◌≡◌};
 ghost use Rattle.buckets.specs.FreeLists.{lists};
 ghost use Rattle.pieces.specs.Pieces.{has_split, has_left, pieces_of, PiecesReady};

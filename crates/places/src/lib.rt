@@ -1,5 +1,7 @@
 // The place of a slot, of a chain and of a Container, worked out from the members' places, with a falling count of slots left.
 // Every slot that the walk comes to is held against the chain in which it was found, so that the walk trusts no link.
+#![tactic(auto)]
+
 ghost use Rattle.std.specs.Prelude.{◌<◌, length};
 ghost use Rattle.sound.specs.View.{none, link_of};
 ghost use Rattle.places.specs.Places.{Held, Ready, Lined, Chained, Slotted, Contained};

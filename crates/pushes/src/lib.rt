@@ -1,4 +1,6 @@
 // The sweep of a full list, and the push after it.
+#![tactic(auto)]
+
 ghost use Rattle.std.specs.Prelude.{◌≡◌, ◌≤◌, ◌<◌, length, get_or};
 ghost use Rattle.lists.specs.Lists.{bag, appended, Entries};
 ghost use Rattle.pushes.specs.Pushes.{swept, Pushable};

@@ -1,5 +1,7 @@
 // What the programs that are run on a stored list share: its lines, the numbers that stand on them, and the counts that are
 // written at the end.
+#![tactic(auto)]
+
 mod lines;
 
 ghost use Rattle.std.specs.Prelude.{◌≡◌};

@@ -1,4 +1,6 @@
 // Deallocate on sound tables: mark Free, climb, push.
+#![tactic(auto)]
+
 ghost use Rattle.std.specs.Prelude.{◌≡◌, List, ℕ};
 ghost use Rattle.steps.specs.State.{state};
 ghost use Rattle.frees.specs.Frees.{released};

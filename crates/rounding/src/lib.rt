@@ -1,4 +1,6 @@
 // Rounding: a requested size as the search takes it.
+#![tactic(auto)]
+
 ghost use Rattle.std.specs.Prelude.{◌≡◌, ◌<◌, ◌^◌, ◌%◌};
 ghost use Rattle.geometry.specs.Sides.{ValidSetup};
 ghost use Rattle.rounding.specs.Rounding.{rounded, request_of};

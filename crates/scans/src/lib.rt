@@ -1,4 +1,6 @@
 // The tests that the check makes of each slot, and the scan for the lowest that fails one.
+#![tactic(auto)]
+
 ghost use Rattle.std.specs.Prelude.{◌≡◌, ◌≤◌, ◌<◌, length};
 ghost use Rattle.table.specs.Table.{HasSlot};
 ghost use Rattle.links.specs.Links.{Table};

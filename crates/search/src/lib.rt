@@ -1,4 +1,6 @@
 // The search for a Free rectangle that takes a request: bucket by bucket, from the request's upward.
+#![tactic(auto)]
+
 ghost use Rattle.std.specs.Prelude.{◌≡◌};
 ghost use Rattle.buckets.specs.FreeLists.{lists};
 ghost use Rattle.choices.specs.Choices.{searched, Searchable};

@@ -1,4 +1,6 @@
 // A new sheet: one Free slot, whatever the tables held.
+#![tactic(auto)]
+
 ghost use Rattle.std.specs.Prelude.{◌≡◌, length};
 ghost use Rattle.steps.specs.State.{state};
 ghost use Rattle.lent.specs.Lent.{Lent};

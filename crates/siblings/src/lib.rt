@@ -1,4 +1,6 @@
 // Rule 3 of one slot: whether it agrees with its next and its prev.
+#![tactic(auto)]
+
 ghost use Rattle.std.specs.Prelude.{◌≡◌};
 ghost use Rattle.links.specs.Links.{next_agrees, prev_agrees, siblings_agree, NamesSlot};
 

@@ -1,4 +1,6 @@
 // What a slot holds: links, a kind, an orientation and a rectangle; and the code of the two in the middle.
+#![tactic(auto)]
+
 ghost use Rattle.std.specs.Prelude.{◌≡◌, ◌<◌};
 ghost use Rattle.slots.specs.Slots.{is_none, kind_number, orientation_number, same_kind, same_orientation, kind_of, orientation_of, code_of};
 

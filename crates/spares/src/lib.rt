@@ -1,4 +1,6 @@
 // Whether enough slots are spare for a call, told by no more than that many steps along the spare chain.
+#![tactic(auto)]
+
 ghost use Rattle.std.specs.Prelude.{◌≡◌, ◌*◌, ◌≤◌, length, leb};
 ghost use Rattle.steps.specs.Spares.{spare_slots};
 ghost use Rattle.spares.specs.Chains.{chain_has, SpareReady};

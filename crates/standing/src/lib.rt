@@ -1,4 +1,6 @@
 // Whether a slot stands where a walk came to it: its parent, prev and orientation, and that the count has a slot left for it.
+#![tactic(auto)]
+
 ghost use Rattle.std.specs.Prelude.{◌≡◌, ◌*◌, ◌≤◌, length};
 ghost use Rattle.standing.specs.Standing.{stands_as, is_lone, lone_at, held_by};
 

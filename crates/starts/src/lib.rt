@@ -1,4 +1,6 @@
 // Start, clear and reset.
+#![tactic(auto)]
+
 ghost use Rattle.std.specs.Prelude.{◌≡◌};
 ghost use Rattle.steps.specs.State.{state};
 ghost use Rattle.outcomes.specs.Given.{nothing, given};

@@ -1,4 +1,6 @@
 // The head, and the steps that take a slot into use and out of it.
+#![tactic(auto)]
+
 ghost use Rattle.std.specs.Prelude.{◌≡◌};
 ghost use Rattle.table.specs.Table.{HasSlot};
 ghost use Rattle.steps.specs.Spares.{stepped, fresh, new_node, marked_unused, HasSpare};

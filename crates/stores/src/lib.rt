@@ -1,4 +1,6 @@
 // What is stored in the slot table: a field of a slot, or all of it.
+#![tactic(auto)]
+
 ghost use Rattle.std.specs.Prelude.{◌≡◌, ◌<◌};
 ghost use Rattle.table.specs.Table.{HasSlot, node_at};
 ghost use Rattle.stores.specs.Stores.{set_word, stored, to_parent, toNext, toPrev, to_kind, to_rect, to_node};

@@ -1,4 +1,6 @@
 // Grow in the slot table: the last slot of a chain, and another parent for a chain.
+#![tactic(auto)]
+
 ghost use Rattle.std.specs.Prelude.{◌≡◌, false};
 ghost use Rattle.slots.specs.Slots.{is_none};
 ghost use Rattle.grows.specs.Grows.{last_from, reparented};

@@ -1,4 +1,6 @@
 // The rectangles of a grow: one stretched, the one appended, and the strip past the old sheet.
+#![tactic(auto)]
+
 ghost use Rattle.std.specs.Prelude.{◌≡◌, ◌+◌, ◌^◌, ◌<◌};
 ghost use Rattle.strips.specs.Strips.{along, stretched_rect, started_at, appended_rect, strip_rect};
 

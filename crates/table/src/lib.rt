@@ -1,4 +1,6 @@
 // Slots in one flat lent table, eight words to a slot, and how they are fetched.
+#![tactic(auto)]
+
 ghost use Rattle.std.specs.Prelude.{◌≡◌, ◌<◌};
 ghost use Rattle.table.specs.Table.{HasSlot, word, node_at};
 

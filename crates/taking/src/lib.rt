@@ -1,4 +1,6 @@
 // The chosen slot is cut for a request; and a refusal.
+#![tactic(auto)]
+
 ghost use Rattle.std.specs.Prelude.{◌≡◌};
 ghost use Rattle.geometry.specs.Rectangles.{no_rect};
 ghost use Rattle.buckets.specs.FreeLists.{lists};

@@ -1,4 +1,6 @@
 // What is found of one line of the list, the counts of it, and what is written of them at the end.
+#![tactic(auto)]
+
 mod written;
 
 pub use written::report;

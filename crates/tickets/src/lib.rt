@@ -1,4 +1,6 @@
 // Tickets: a slot and its generation in one number.
+#![tactic(auto)]
+
 ghost use Rattle.std.specs.Prelude.{◌≡◌, ◌<◌};
 ghost use Rattle.tickets.specs.Tickets.{ticket_of, slot_of, generation_of};
 

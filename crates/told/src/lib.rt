@@ -1,6 +1,8 @@
 // The state that the list tells of, for 256 slots and 2,048 entries a list. Tables 0 to 3 are the slots' words and the three
 // lists as told, and 4 to 7 the same of ours; the generations told come before ours too. A change at a place that the tables
 // don't have, or to a number that they can't have, is not made.
+#![tactic(auto)]
+
 ghost use Rattle.std.specs.Prelude.{◌+◌, ◌<◌};
 
 use buckets::Lengths;

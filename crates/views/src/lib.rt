@@ -1,4 +1,6 @@
 // What can be read off the tables: the listings, and the sheet's size.
+#![tactic(auto)]
+
 ghost use Rattle.std.specs.Prelude.{◌≡◌};
 ghost use Rattle.slots.specs.declared.NodeKind.TheVariants.{Alloc, Free};
 ghost use Rattle.steps.specs.State.{state};

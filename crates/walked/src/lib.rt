@@ -1,4 +1,6 @@
 // Rules 3 to 7, by the walk from the root: the lowest-numbered one that is broken, and where.
+#![tactic(auto)]
+
 ghost use Rattle.std.specs.Prelude.{◌≡◌, ◌-◌};
 ghost use Rattle.buckets.specs.FreeLists.{lists};
 ghost use Rattle.geometry.specs.Sides.{setup_of};

@@ -1,4 +1,6 @@
 // How far a sheet grows each way, from its old size and its new one.
+#![tactic(auto)]
+
 ghost use Rattle.std.specs.Prelude.{◌≡◌, ◌≤◌};
 ghost use Rattle.geometry.specs.Sides.{natural};
 ghost use Rattle.ways.specs.Ways.{ways_of};
