@@ -7,7 +7,7 @@ use Rattle.std.proofs.Math.Numerals.{unary_clauses}
 use Rattle.std.proofs.Math.Decide.{ℕ_discrete}
 use Rattle.geometry.specs.Sides.{natural}
 use Rattle.geometry.specs.Measures.{covers, area_of, Adds}
-use Rattle.geometry.specs.MeasureLaws.{covers_adds, area_adds, covers_one}
+use Rattle.geometry.proofs.MeasureLaws.{covers_adds, area_adds, covers_one}
 use Rattle.geometry.specs.declared.Rectangle.{Rectangle}
 use Rattle.steps.specs.State.{State}
 use Rattle.sound.specs.View.{none, Seen, seen}

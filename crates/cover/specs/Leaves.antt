@@ -7,7 +7,7 @@ use native.Mathlib.Omega.{arith}
 use Rattle.geometry.specs.Choice.{pick}
 use Rattle.geometry.specs.Rectangles.{flip}
 use Rattle.geometry.specs.Measures.{within, covers}
-use Rattle.geometry.specs.MeasureLaws.{covers_one}
+use Rattle.geometry.proofs.MeasureLaws.{covers_one}
 use Rattle.geometry.specs.declared.Orientation.{Orientation}
 use Rattle.geometry.specs.declared.Rectangle.{Rectangle}
 use Rattle.slots.specs.Slots.{same_kind}

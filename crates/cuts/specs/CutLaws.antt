@@ -11,7 +11,7 @@ use Rattle.geometry.specs.Choice.{pick_elim, lesser, lesser_first}
 use Rattle.geometry.specs.Rectangles.{flip, no_rect, width_of, height_of, empty_rect}
 use Rattle.cuts.specs.Cuts.{FitsIn, at_corner, area_compared, split_of, leftover_of, exact_fit, cut_way, cut_of}
 use Rattle.geometry.specs.Measures.{covers, area_of, span, start, end, along, Adds}
-use Rattle.geometry.specs.MeasureLaws.{covers_adds, area_adds, adds_nothing}
+use Rattle.geometry.proofs.MeasureLaws.{covers_adds, area_adds, adds_nothing}
 use Rattle.cuts.specs.PieceLaws.{Spans, pieces_span, fits_along, along_positive, span_empty, Inside, pieces_inside, pieces_add}
 use Rattle.geometry.specs.TestLaws.{and_true_each, and_false_one}
 use Rattle.geometry.specs.declared.Rectangle.{Rectangle}

@@ -8,7 +8,7 @@ use Rattle.std.proofs.lemmas.Bool.{lt-leb}
 use Rattle.geometry.specs.Rectangles.{flip, empty_rect}
 use Rattle.cuts.specs.Cuts.{FitsIn, at_corner, split_of, leftover_of}
 use Rattle.geometry.specs.Measures.{span, start, end, along, Adds}
-use Rattle.geometry.specs.MeasureLaws.{adds_three}
+use Rattle.geometry.proofs.MeasureLaws.{adds_three}
 use Rattle.geometry.specs.declared.Rectangle.{Rectangle}
 use Rattle.geometry.specs.declared.Orientation.{Orientation}
 use Rattle.geometry.specs.declared.Orientation.TheVariants.{Vertical, Horizontal}

@@ -5,7 +5,7 @@ use Rattle.std.specs.Prelude.{ℕ, ◌<◌, ◌≡◌, refl}
 use Rattle.std.proofs.Common.{sym, ◌∙◌, ap, inl, inr, arith}
 use Rattle.geometry.specs.Rectangles.{flip}
 use Rattle.geometry.specs.Measures.{span, start, end, Adds}
-use Rattle.geometry.specs.MeasureLaws.{span_flip}
+use Rattle.geometry.proofs.MeasureLaws.{span_flip}
 use Rattle.geometry.specs.declared.Orientation.{Orientation}
 use Rattle.geometry.specs.declared.Orientation.TheVariants.{Vertical, Horizontal}
 use Rattle.geometry.specs.declared.Rectangle.{Rectangle}

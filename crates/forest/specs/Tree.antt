@@ -5,7 +5,7 @@ use Rattle.std.specs.Prelude.{ℕ, ◌+◌, ◌≤◌, ◌<◌, ◌≡◌, refl}
 use Rattle.std.proofs.Common.{sym, arith}
 use Rattle.geometry.specs.Rectangles.{flip}
 use Rattle.geometry.specs.Measures.{span, Adds}
-use Rattle.geometry.specs.MeasureLaws.{span_flip, adds_nothing}
+use Rattle.geometry.proofs.MeasureLaws.{span_flip, adds_nothing}
 use Rattle.geometry.specs.declared.Orientation.{Orientation}
 use Rattle.geometry.specs.declared.Rectangle.{Rectangle}
 use Rattle.slots.specs.declared.NodeKind.{NodeKind}

@@ -6,4 +6,3 @@ pub mod Measures
 pub mod TestLaws
 pub mod SideLaws
 pub mod BucketLaws
-pub mod MeasureLaws

@@ -6,7 +6,7 @@ use Rattle.std.proofs.Math.Bool.{true, false}
 use Rattle.std.proofs.Math.Logic.{inl, inr, ⊎_elim}
 use Rattle.geometry.specs.Rectangles.{flip, width_of, height_of}
 use Rattle.geometry.specs.Measures.{span}
-use Rattle.geometry.specs.MeasureLaws.{span_flip}
+use Rattle.geometry.proofs.MeasureLaws.{span_flip}
 use Rattle.geometry.specs.declared.Orientation.{Orientation}
 use Rattle.geometry.specs.declared.Orientation.TheVariants.{Vertical, Horizontal}
 use Rattle.geometry.specs.declared.Rectangle.{Rectangle}
