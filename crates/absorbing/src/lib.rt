@@ -10,7 +10,7 @@ use geometry::Rectangle;
 use slots::{AllocIndex, NodeKind};
 
 // Where a climb stands: the head of the spare chain, and the Free slot that it has come to.
-#[derive(Drop)]
+#[derive(Clone, Copy)]
 pub struct Rung {
     pub spare: AllocIndex,
     pub at: AllocIndex,

@@ -9,7 +9,7 @@ use geometry::Bucket;
 use lists::Found;
 
 // How many places of each bucket's table are filled.
-#[derive(Drop)]
+#[derive(Clone, Copy)]
 pub struct Lengths {
     pub small: usize,
     pub medium: usize,
@@ -103,7 +103,7 @@ fn first_in(
 }
 
 // An entry of a slot: its bucket, and its place in that bucket's list.
-#[derive(Drop)]
+#[derive(Clone, Copy)]
 pub enum Entry {
     In(Bucket, usize),
     Nowhere,

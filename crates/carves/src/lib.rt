@@ -14,7 +14,7 @@ use slots::{AllocIndex, NodeKind};
 use steps::{Head, Taken};
 
 // The slots of a cut, and the head after they were taken.
-#[derive(Drop)]
+#[derive(Clone, Copy)]
 pub struct NewSlots {
     pub slots: CutSlots,
     pub head: Head,

@@ -13,14 +13,14 @@ use geometry::Bucket;
 use slots::AllocIndex;
 
 // The slot that was chosen, with its bucket and its place in that bucket's list.
-#[derive(Drop)]
+#[derive(Clone, Copy)]
 pub enum Chosen {
     At(AllocIndex, Bucket, usize),
     Nothing,
 }
 
 // What a search answers, with the lengths of the lists as it left them. The chosen entry is still in its list.
-#[derive(Drop)]
+#[derive(Clone, Copy)]
 pub struct Search {
     pub chosen: Chosen,
     pub lengths: Lengths,
@@ -38,7 +38,7 @@ fn chosen_of(list: &[u32], best: Best, place: usize, bucket: Bucket) -> Chosen
 }
 
 // What the scan of one list answers, and the list's length after it.
-#[derive(Drop)]
+#[derive(Clone, Copy)]
 struct Answer {
     chosen: Chosen,
     len: usize,

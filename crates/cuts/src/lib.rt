@@ -81,7 +81,7 @@ fn leftover_of(o: Orientation, r: Rectangle, w: u32, h: u32) -> Rectangle
 }
 
 // What the cut leaves of the chosen rectangle beside the request, and how the pieces lie.
-#[derive(Drop)]
+#[derive(Clone, Copy)]
 pub struct Cut {
     pub orientation: Orientation,
     pub split: Rectangle,

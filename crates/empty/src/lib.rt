@@ -8,7 +8,7 @@ ghost use Rattle.empty.specs.Empty.{EmptyCall};
 use steps::Head;
 
 // A number of the paper's list, with whether the sheet is empty.
-#[derive(Drop)]
+#[derive(Clone, Copy)]
 pub struct Emptiness {
     pub answer: u32,
     pub empty: bool,

@@ -9,7 +9,7 @@ use geometry::Rectangle;
 use slots::{AllocIndex, NodeKind};
 
 // What is looked for: a rectangle at least this wide and tall. The greatest lesser spare side wins where worst is set, else the least.
-#[derive(Drop)]
+#[derive(Clone, Copy)]
 pub struct Query {
     pub width: u32,
     pub height: u32,
@@ -17,14 +17,14 @@ pub struct Query {
 }
 
 // Whether there is a candidate so far. The best one's place stands beside it, in the scan.
-#[derive(Drop)]
+#[derive(Clone, Copy)]
 pub enum Best {
     Found,
     Nothing,
 }
 
 // A scan of one list: its length, the next place to look at, and the best candidate with its place and its score.
-#[derive(Drop)]
+#[derive(Clone, Copy)]
 pub struct Scan {
     pub len: usize,
     pub at: usize,

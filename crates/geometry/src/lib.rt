@@ -8,7 +8,7 @@ ghost use Rattle.geometry.specs.Buckets.{reaches, bucket_of};
 ghost use Rattle.geometry.specs.Rectangles.{no_rect, flip, empty_rect};
 
 // A width and a height as they arrive: any two i32.
-#[derive(Drop)]
+#[derive(Clone, Copy)]
 pub struct Size {
     pub width: i32,
     pub height: i32,
@@ -16,7 +16,7 @@ pub struct Size {
 
 // What a caller may set: the sides that requests are rounded up to multiples of, and from which side on a
 // size is medium (small) or large (large).
-#[derive(Drop)]
+#[derive(Clone, Copy)]
 pub struct AllocatorOptions {
     pub alignment: Size,
     pub small: i32,
@@ -24,14 +24,14 @@ pub struct AllocatorOptions {
 }
 
 // A width and a height to reckon with.
-#[derive(Drop)]
+#[derive(Clone, Copy)]
 pub struct Extent {
     pub width: u32,
     pub height: u32,
 }
 
 // A sheet and its options as numbers to reckon with: see setup_of.
-#[derive(Drop)]
+#[derive(Clone, Copy)]
 pub struct Setup {
     pub sheet: Extent,
     pub alignment: Extent,
@@ -40,7 +40,7 @@ pub struct Setup {
 }
 
 // A rectangle from its least corner to its greatest, which is outside it.
-#[derive(Drop)]
+#[derive(Clone, Copy)]
 pub struct Rectangle {
     pub x0: u32,
     pub y0: u32,
@@ -49,7 +49,7 @@ pub struct Rectangle {
 }
 
 // How siblings follow one another: Vertical runs down y, Horizontal along x.
-#[derive(Drop)]
+#[derive(Clone, Copy)]
 pub enum Orientation {
     Vertical,
     Horizontal,
@@ -142,7 +142,7 @@ pub fn setup_of(sheet: Size, options: AllocatorOptions) -> Setup
 }
 
 // The free list that a size belongs to.
-#[derive(Drop)]
+#[derive(Clone, Copy)]
 pub enum Bucket {
     Small,
     Medium,

@@ -9,7 +9,7 @@ use geometry::Orientation;
 use slots::AllocIndex;
 
 // How a chosen slot is cut: not at all, along its orientation or across it, with a leftover or without.
-#[derive(Drop)]
+#[derive(Clone, Copy)]
 pub enum Shape {
     Exact,
     Along,
@@ -19,7 +19,7 @@ pub enum Shape {
 }
 
 // The slots of a cut: split, inner Container, Alloc and leftover, none where there is none.
-#[derive(Drop)]
+#[derive(Clone, Copy)]
 pub struct CutSlots {
     pub split: AllocIndex,
     pub inner: AllocIndex,

@@ -11,7 +11,7 @@ use slots::AllocIndex;
 // What a walk over a chain or a slot found: whether it came to its end within the count, whether all that it saw fits together,
 // the place if so, whether the rectangle of the slot, or of the chain's last one, is its place if it is a Container, and how many
 // slots of the count are left.
-#[derive(Drop)]
+#[derive(Clone, Copy)]
 pub struct Placed {
     pub ended: bool,
     pub fits: bool,

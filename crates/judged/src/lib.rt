@@ -10,7 +10,7 @@ use scans::Test;
 use slots::AllocIndex;
 
 // What the check found: the lowest-numbered rule that is broken, 0 for none, and the lowest place that breaks it, 0 where no single place does.
-#[derive(Drop)]
+#[derive(Clone, Copy)]
 pub struct Verdict {
     pub rule: u32,
     pub place: u32,

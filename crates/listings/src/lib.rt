@@ -8,7 +8,7 @@ ghost use Rattle.links.specs.Held.{Held};
 use slots::{AllocIndex, NodeKind};
 
 // A number of the paper's list, with how many entries a listing has.
-#[derive(Drop)]
+#[derive(Clone, Copy)]
 pub struct Listing {
     pub answer: u32,
     pub count: u32,

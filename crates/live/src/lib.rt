@@ -10,7 +10,7 @@ use slots::NodeKind;
 use tickets::AllocId;
 
 // A number of the paper's list, with a live ticket's rectangle.
-#[derive(Drop)]
+#[derive(Clone, Copy)]
 pub struct Looked {
     pub answer: u32,
     pub rect: Rectangle,

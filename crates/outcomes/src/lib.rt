@@ -4,7 +4,7 @@
 use steps::Head;
 
 // A number of the paper's list, and the head after the call.
-#[derive(Drop)]
+#[derive(Clone, Copy)]
 pub struct Outcome {
     pub answer: u32,
     pub head: Head,

@@ -11,7 +11,7 @@ use slots::{AllocIndex, Node, NodeKind};
 use steps::Head;
 
 // Two slots taken, and the head after it.
-#[derive(Drop)]
+#[derive(Clone, Copy)]
 pub struct Two {
     pub first: AllocIndex,
     pub second: AllocIndex,

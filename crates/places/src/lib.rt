@@ -12,7 +12,7 @@ use slots::{AllocIndex, Node, NodeKind};
 
 // A Container whose only child is a Container has that one's place. The last Container in such a line, with the orientation of its
 // children and the count that is left for them.
-#[derive(Drop)]
+#[derive(Clone, Copy)]
 struct Line {
     at: AllocIndex,
     along: Orientation,

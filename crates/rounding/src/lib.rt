@@ -8,7 +8,7 @@ ghost use Rattle.rounding.specs.Rounding.{rounded, request_of};
 use geometry::{Extent, Setup, Size};
 
 // A side rounded up, or the refusal of one that would be too large.
-#[derive(Drop)]
+#[derive(Clone, Copy)]
 pub enum Rounded {
     To(u32),
     Over,
@@ -44,7 +44,7 @@ pub fn adjust_size(alignment: u32, side: u32) -> Rounded
 }
 
 // A requested size as the search takes it, or why it is refused.
-#[derive(Drop)]
+#[derive(Clone, Copy)]
 pub enum Request {
     Of(Extent),
     NotPositive,

@@ -11,7 +11,7 @@ use geometry::Setup;
 use slots::{AllocIndex, NodeKind};
 
 // The tests that go over the slots one by one.
-#[derive(Drop)]
+#[derive(Clone, Copy)]
 pub enum Test {
     Links,
     Merged,

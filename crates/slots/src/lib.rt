@@ -7,13 +7,13 @@ ghost use Rattle.slots.specs.Slots.{is_none, kind_number, orientation_number, sa
 use geometry::{Orientation, Rectangle};
 
 // The number of a slot, or none.
-#[derive(Drop)]
+#[derive(Clone, Copy)]
 pub struct AllocIndex(pub u32);
 
 // The link that names no slot.
 pub const NONE: u32 = 4294967295;
 
-#[derive(Drop)]
+#[derive(Clone, Copy)]
 pub enum NodeKind {
     Container,
     Alloc,
@@ -22,7 +22,7 @@ pub enum NodeKind {
 }
 
 // A slot's contents.
-#[derive(Drop)]
+#[derive(Clone, Copy)]
 pub struct Node {
     pub parent: AllocIndex,
     pub next: AllocIndex,

@@ -11,7 +11,7 @@ use slots::{AllocIndex, NodeKind};
 
 // What is kept beside the tables: the sheet and its options, the first slot of the top chain, the first
 // spare slot, how many slots there are, and the lengths of the free lists.
-#[derive(Drop)]
+#[derive(Clone, Copy)]
 pub struct Head {
     pub sheet: Size,
     pub options: AllocatorOptions,
@@ -22,7 +22,7 @@ pub struct Head {
 }
 
 // A slot taken into use, with the head after it.
-#[derive(Drop)]
+#[derive(Clone, Copy)]
 pub struct Taken {
     pub slot: AllocIndex,
     pub head: Head,

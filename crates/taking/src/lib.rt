@@ -17,7 +17,7 @@ use steps::Head;
 use tickets::AllocId;
 
 // A number of the paper's list, the ticket and the rectangle if it is 0, and the head after the call.
-#[derive(Drop)]
+#[derive(Clone, Copy)]
 pub struct Allocation {
     pub answer: u32,
     pub id: AllocId,

@@ -7,7 +7,7 @@ ghost use Rattle.tickets.specs.Tickets.{ticket_of, slot_of, generation_of};
 use slots::AllocIndex;
 
 // A ticket: what a caller holds for an allocated rectangle.
-#[derive(Drop)]
+#[derive(Clone, Copy)]
 pub struct AllocId(pub u32);
 
 // The ticket of a slot with its generation.

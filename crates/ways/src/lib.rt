@@ -8,7 +8,7 @@ ghost use Rattle.ways.specs.Ways.{ways_of};
 use geometry::{AllocatorOptions, Extent, Orientation, Rectangle, Size};
 
 // By how much a sheet grows along an orientation and across it, and the strip across.
-#[derive(Drop)]
+#[derive(Clone, Copy)]
 pub struct Ways {
     pub along: u32,
     pub across: u32,
