@@ -6,7 +6,8 @@ use Rattle.geometry.specs.Sides.{setup_of}
 use Rattle.geometry.specs.declared.Extent.{Extent}
 use Rattle.geometry.specs.declared.Size.{Size}
 use Rattle.rounding.specs.Rounding.{request_of}
-use Rattle.rounding.specs.RequestLaws.{wide, tall, wide_up, tall_up, request_not_positive, request_too_large, request_sides}
+use Rattle.rounding.specs.RequestLaws.{wide, tall, wide_up, tall_up}
+use Rattle.rounding.proofs.RequestLaws.{request_not_positive, request_too_large, request_sides}
 use Rattle.rounding.specs.declared.Request.{Request}
 use Rattle.rounding.specs.declared.Request.TheVariants.{Of, NotPositive, TooLarge}
 use Rattle.slots.specs.declared.AllocIndex.{AllocIndex}

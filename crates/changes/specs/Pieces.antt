@@ -5,7 +5,7 @@ use Rattle.std.proofs.Common.{sym, ◌∙◌, inr, arith, leb-true, leb-false}
 use Rattle.geometry.specs.Rectangles.{flip, empty_rect, width_of, height_of}
 use Rattle.cuts.specs.Cuts.{FitsIn, at_corner, split_of, leftover_of}
 use Rattle.geometry.specs.Measures.{start, end, along}
-use Rattle.cuts.specs.PieceLaws.{pieces_span, fits_along, along_positive, span_empty}
+use Rattle.cuts.proofs.PieceLaws.{pieces_span, fits_along, along_positive, span_empty}
 use Rattle.geometry.specs.TestLaws.{or_false_each}
 use Rattle.geometry.specs.declared.Orientation.{Orientation}
 use Rattle.geometry.specs.declared.Orientation.TheVariants.{Vertical, Horizontal}

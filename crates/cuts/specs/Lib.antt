@@ -1,3 +1,2 @@
 pub mod Cuts
 pub mod PieceLaws
-pub mod CutLaws

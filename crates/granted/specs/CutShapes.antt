@@ -6,7 +6,7 @@ use Rattle.std.proofs.Math.Bool.{false≢true}
 use Rattle.geometry.specs.Choice.{pick_elim}
 use Rattle.geometry.specs.Rectangles.{flip, empty_rect}
 use Rattle.cuts.specs.Cuts.{FitsIn, at_corner, split_of, leftover_of, exact_fit, cut_way, cut_of}
-use Rattle.cuts.specs.CutLaws.{exact_fills, exact_no_pieces, cut_pieces, split_not_empty}
+use Rattle.cuts.proofs.CutLaws.{exact_fills, exact_no_pieces, cut_pieces, split_not_empty}
 use Rattle.cuts.specs.declared.Cut.{Cut}
 use Rattle.geometry.specs.declared.Orientation.{Orientation}
 use Rattle.geometry.specs.declared.Orientation.TheVariants.{Vertical, Horizontal}

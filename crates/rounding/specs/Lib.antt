@@ -1,4 +1,3 @@
 pub mod Rounding
-pub mod RoundingLaws
 pub mod PowerLaws
 pub mod RequestLaws

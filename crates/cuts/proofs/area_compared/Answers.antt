@@ -1,8 +1,6 @@
 -- `cuts::area_compared` meets its contract: the product of two numbers of 32 bits has at most 64.
 -- Assumes nothing.
-use Rattle.cuts.proofs.Product.{product_fits}
 use Rattle.cuts.specs.Cuts.{area_compared}
-use borrow.Author.Rules.{rules}
 use Rattle.cuts.proofs.area_compared.Goals as goal
 
 pub returns : goal.returns

@@ -2,7 +2,6 @@
 -- Assumes nothing.
 use borrow.Author.Tests.{lt-ltb, le-ltb}
 use Rattle.cuts.specs.Cuts.{cut_way}
-use borrow.Author.Rules.{rules}
 use Rattle.cuts.proofs.cut_way.Goals as goal
 
 pub returns-then-area_compared : goal.returns-then-area_compared

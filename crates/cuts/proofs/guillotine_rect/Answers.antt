@@ -2,7 +2,6 @@
 -- Assumes nothing.
 use mathlib.Core.Path.{sym, ◌∙◌}
 use Rattle.cuts.specs.Cuts.{cut_of}
-use borrow.Author.Rules.{rules}
 use Rattle.cuts.proofs.guillotine_rect.Goals as goal
 
 pub returns-then-is_exact : goal.returns-then-is_exact

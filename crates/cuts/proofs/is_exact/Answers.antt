@@ -2,7 +2,6 @@
 -- Assumes nothing.
 use borrow.Author.Tests.{eq-eqb, ne_eqb}
 use Rattle.cuts.specs.Cuts.{exact_fit}
-use borrow.Author.Rules.{rules}
 use Rattle.cuts.proofs.is_exact.Goals as goal
 
 pub returns-then-r-w : goal.returns-then-r-w

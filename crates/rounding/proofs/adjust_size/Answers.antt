@@ -1,10 +1,8 @@
 -- `rounding::adjust_size` meets its contract: a remainder is below the alignment, so neither the difference nor the sum wraps.
 -- Assumes nothing.
 use native.Mathlib.Omega.{arith}
-use native.Mathlib.Nat.{mod-lt}
 use borrow.Author.Tests.{eq-eqb, ne_eqb, le-leb, lt-leb}
 use Rattle.rounding.specs.Rounding.{round_up, rounded}
-use borrow.Author.Rules.{rules}
 use Rattle.rounding.proofs.adjust_size.Goals as goal
 
 pub returns-then-rem-eq0 : goal.returns-then-rem-eq0

@@ -1,10 +1,8 @@
 -- `rounding::request_of` meets its contract: each answer rewrites with what the tests that led there say of the sides as they
 -- arrived, and with what each call ensures.
 -- Assumes nothing.
-use mathlib.Core.Path.{◌≡◌}
 use borrow.Author.Tests.{eq-eqb, ne_eqb}
-use Rattle.geometry.specs.Sides.{natural}
-use Rattle.rounding.specs.Rounding.{both_rounded, request_of}
+use Rattle.rounding.specs.Rounding.{request_of}
 use Rattle.geometry.proofs.Signed.{natural_read}
 use Rattle.rounding.proofs.request_of.Goals as goal
 

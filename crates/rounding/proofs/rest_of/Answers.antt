@@ -1,6 +1,5 @@
 -- `rounding::rest_of` meets its contract: where the alignment shares no digit with the number below it, it is a power of two.
 -- Assumes nothing.
-use borrow.Author.Rules.{rules}
 use Rattle.rounding.specs.PowerLaws.{masked}
 use Rattle.rounding.proofs.rest_of.Goals as goal
 

@@ -12,7 +12,8 @@ use Rattle.geometry.specs.Rectangles.{flip, no_rect, width_of, height_of, empty_
 use Rattle.cuts.specs.Cuts.{FitsIn, at_corner, area_compared, split_of, leftover_of, exact_fit, cut_way, cut_of}
 use Rattle.geometry.specs.Measures.{covers, area_of, span, start, end, along, Adds}
 use Rattle.geometry.proofs.MeasureLaws.{covers_adds, area_adds, adds_nothing}
-use Rattle.cuts.specs.PieceLaws.{Spans, pieces_span, fits_along, along_positive, span_empty, Inside, pieces_inside, pieces_add}
+use Rattle.cuts.specs.PieceLaws.{Spans, Inside}
+use Rattle.cuts.proofs.PieceLaws.{pieces_span, fits_along, along_positive, span_empty, pieces_inside, pieces_add}
 use Rattle.geometry.specs.TestLaws.{and_true_each, and_false_one}
 use Rattle.geometry.specs.declared.Rectangle.{Rectangle}
 use Rattle.geometry.specs.declared.Orientation.{Orientation}
