@@ -13,7 +13,7 @@ use Rattle.steps.specs.Spares.{unused_below}
 use Rattle.steps.specs.State.{State, lists_of}
 use Rattle.sound.specs.Sound.{Counted, Listed}
 use Rattle.links.specs.Links.{spare_walk}
-use Rattle.links.specs.SpareLaws.{spare_walk_yes, spare_walk_no}
+use Rattle.links.proofs.SpareLaws.{spare_walk_yes, spare_walk_no}
 use Rattle.lent.specs.Lent.{LentOf}
 use Rattle.below.specs.Below.{first_from}
 use Rattle.marks.specs.Marks.{listed_at, marks_of, ListsReady}

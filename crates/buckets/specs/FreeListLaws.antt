@@ -8,7 +8,7 @@ use Rattle.lists.specs.Lists.{Bag, appended, removed}
 use Rattle.pushes.specs.Pushes.{swept, pushed, Pushable}
 use Rattle.buckets.specs.FreeLists.{Lists, list_of, with_list, Within, pushed_to, removed_from}
 use Rattle.lists.specs.ListLaws.{length_removed}
-use Rattle.pushes.specs.PushLaws.{room_given, room_gone, push_appends, push_sweeps, pushed_within}
+use Rattle.pushes.proofs.PushLaws.{room_given, room_gone, push_appends, push_sweeps, pushed_within}
 
 -- A bucket's list is the one that was put there, and the other buckets' lists are as they were.
 pub list_of_with_list_same : (b : Bucket) (x : Bag) (l : Lists) → list_of b (with_list b x l) ≡ x

@@ -7,8 +7,9 @@ use Rattle.buckets.specs.FreeLists.{Lists, list_of, with_list}
 use Rattle.buckets.specs.FreeListLaws.{with_list_elim}
 use Rattle.fits.specs.Scans.{Scanned, scanned, first, scan_all, BestWithin, Ready}
 use Rattle.fits.specs.Thinned.{Thinned, thinned_itself}
-use Rattle.fits.specs.ScanLaws.{list_in, ready_thinned, looking_thins}
-use Rattle.fits.specs.Candidates.{scan_scans, scanning_best}
+use Rattle.fits.specs.ScanLaws.{list_in}
+use Rattle.fits.proofs.ScanLaws.{ready_thinned, looking_thins}
+use Rattle.fits.proofs.Candidates.{scan_scans, scanning_best}
 use Rattle.fits.specs.declared.Query.{Query}
 use Rattle.choices.specs.declared.Chosen.{Chosen}
 use Rattle.choices.specs.Choices.{chosen_of, ScanAnswer, scan_answer, scan_bucket, Searched, searched, search_one, Searchable}

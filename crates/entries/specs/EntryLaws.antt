@@ -15,7 +15,7 @@ use Rattle.pushes.specs.Pushes.{pushed}
 use Rattle.buckets.specs.FreeLists.{Lists, list_of, removed_from}
 use Rattle.buckets.specs.FreeListLaws.{with_list_elim}
 use Rattle.lists.specs.ListLaws.{length_removed, entries_removed, entries_words}
-use Rattle.pushes.specs.PushLaws.{length_pushed, entries_pushed}
+use Rattle.pushes.proofs.PushLaws.{length_pushed, entries_pushed}
 use Rattle.entries.specs.Entries.{entered, ListReady, ListsReady, Enterable}
 
 -- Any slot of the table can be pushed.

@@ -6,7 +6,7 @@ use Rattle.std.proofs.lemmas.Bool.{false≢true}
 use Rattle.std.proofs.Math.Decide.{ℕ_discrete}
 use Rattle.table.specs.Table.{HasSlot}
 use Rattle.stores.specs.Stores.{stored, to_kind, toNext}
-use Rattle.stores.specs.StoreLaws.{length_stored, has_stored, node_at_stored_same}
+use Rattle.stores.proofs.StoreLaws.{length_stored, has_stored, node_at_stored_same}
 use Rattle.slots.specs.declared.AllocIndex.{AllocIndex}
 use Rattle.slots.specs.declared.NodeKind.TheVariants.{Unused}
 use Rattle.steps.specs.Spares.{marked_unused}

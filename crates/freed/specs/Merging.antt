@@ -9,7 +9,7 @@ use Rattle.geometry.specs.declared.Rectangle.{Rectangle}
 use Rattle.slots.specs.Slots.{is_none}
 use Rattle.table.specs.Table.{node_at, HasSlot}
 use Rattle.stores.specs.Stores.{stored, toNext, toPrev, to_kind, to_rect}
-use Rattle.stores.specs.StoreLaws.{length_stored, has_stored, node_at_stored_same, node_at_stored_other}
+use Rattle.stores.proofs.StoreLaws.{length_stored, has_stored, node_at_stored_same, node_at_stored_other}
 use Rattle.slots.specs.declared.AllocIndex.{AllocIndex}
 use Rattle.slots.specs.declared.NodeKind.TheVariants.{Free}
 use Rattle.steps.specs.Spares.{marked_unused}

@@ -8,7 +8,7 @@ use Rattle.std.proofs.Math.Decide.{ℕ_discrete}
 use Rattle.slots.specs.Slots.{slot}
 use Rattle.table.specs.Table.{node_at}
 use Rattle.stores.specs.Stores.{stored, to_kind}
-use Rattle.stores.specs.StoreLaws.{length_stored}
+use Rattle.stores.proofs.StoreLaws.{length_stored}
 use Rattle.slots.specs.declared.AllocIndex.{AllocIndex}
 use Rattle.slots.specs.declared.NodeKind.TheVariants.{Alloc, Free}
 use Rattle.lists.specs.Counts.{count}

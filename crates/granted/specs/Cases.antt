@@ -10,7 +10,7 @@ use Rattle.geometry.specs.declared.Extent.{Extent}
 use Rattle.geometry.specs.declared.Rectangle.{Rectangle}
 use Rattle.table.specs.Table.{node_at}
 use Rattle.slots.specs.declared.AllocIndex.{AllocIndex}
-use Rattle.search.specs.FindLaws.{search_thins, search_nothing_means_none, search_none_means_nothing}
+use Rattle.search.proofs.FindLaws.{search_thins, search_nothing_means_none, search_none_means_nothing}
 use Rattle.choices.specs.Choices.{Searched}
 use Rattle.search.specs.Search.{find_suitable}
 use Rattle.choices.specs.declared.Chosen.{Chosen}

@@ -10,8 +10,8 @@ use Rattle.buckets.specs.FreeLists.{Lists, list_of, Within, pushed_to, removed_f
 use Rattle.lists.specs.ListLaws.{length_removed, each_removed}
 use Rattle.lists.specs.Lists.{Bag, removed, Each}
 use Rattle.pushes.specs.Pushes.{pushed, Pushable}
-use Rattle.pushes.specs.PushLaws.{length_pushed, each_pushed}
-use Rattle.search.specs.FindLaws.{search_keeps_searchable, search_within, search_each}
+use Rattle.pushes.proofs.PushLaws.{length_pushed, each_pushed}
+use Rattle.search.proofs.FindLaws.{search_keeps_searchable, search_within, search_each}
 use Rattle.choices.specs.Choices.{Searched, Searchable}
 use Rattle.search.specs.Search.{find_suitable}
 use Rattle.steps.specs.State.{State, lists_of}

@@ -21,7 +21,7 @@ use Rattle.forest.specs.Pigeon.{In, Distinct}
 use Rattle.forest.specs.Ends.{EndsIn, in_ends, ends_unique}
 use Rattle.forest.specs.Spare.{none_visits, visits_step, chain_visits_once, spare_steps}
 use Rattle.links.specs.LinkLaws.{link_none, link_some, link_of_slot}
-use Rattle.links.specs.SpareLaws.{unused_count}
+use Rattle.links.proofs.SpareLaws.{unused_count}
 use Rattle.changes.specs.Swaps.{Taken, none_taken}
 
 -- The spare chain without the new slots: it visits each other Unused slot below n, visits nothing else, and ends.

@@ -16,7 +16,7 @@ use Rattle.table.specs.Table.{node_at, HasSlot}
 use Rattle.slots.specs.declared.AllocIndex.{AllocIndex}
 use Rattle.slots.specs.declared.NodeKind.TheVariants.{Free}
 use Rattle.buckets.specs.FreeLists.{Lists, list_of}
-use Rattle.search.specs.FindLaws.{search_each, search_chosen}
+use Rattle.search.proofs.FindLaws.{search_each, search_chosen}
 use Rattle.fits.specs.Scans.{Lookable}
 use Rattle.choices.specs.Choices.{Searched, Searchable}
 use Rattle.search.specs.Search.{find_suitable}

@@ -18,8 +18,9 @@ use Rattle.buckets.specs.FreeListLaws.{list_of_with_list_same, with_list_elim}
 use Rattle.lists.specs.Lists.{Bag, removed, free_entry}
 use Rattle.pushes.specs.Pushes.{pushed, Pushable}
 use Rattle.lists.specs.OccurrenceLaws.{removed_others, place_occurs, occurs_at}
-use Rattle.pushes.specs.PushedLaws.{push_enters, push_keeps_free}
-use Rattle.search.specs.FindLaws.{ideal_of, search_keeps_free}
+use Rattle.pushes.proofs.PushedLaws.{push_enters, push_keeps_free}
+use Rattle.search.specs.FindLaws.{ideal_of}
+use Rattle.search.proofs.FindLaws.{search_keeps_free}
 use Rattle.choices.specs.Choices.{Searched, Searchable}
 use Rattle.search.specs.Search.{find_suitable}
 use Rattle.steps.specs.State.{State, lists_of}

@@ -10,7 +10,7 @@ use Rattle.geometry.specs.declared.Rectangle.{Rectangle}
 use Rattle.slots.specs.Slots.{slot}
 use Rattle.table.specs.Table.{node_at, HasSlot}
 use Rattle.stores.specs.Stores.{stored, to_kind}
-use Rattle.stores.specs.StoreLaws.{length_stored}
+use Rattle.stores.proofs.StoreLaws.{length_stored}
 use Rattle.slots.specs.declared.AllocIndex.{AllocIndex}
 use Rattle.slots.specs.declared.NodeKind.TheVariants.{Container, Alloc, Free}
 use Rattle.steps.specs.declared.Head.{Head}

@@ -11,7 +11,7 @@ use Rattle.geometry.specs.declared.Rectangle.{Rectangle}
 use Rattle.slots.specs.Slots.{slot, is_none}
 use Rattle.table.specs.Table.{node_at, HasSlot}
 use Rattle.stores.specs.Stores.{Store, toNext, toPrev, to_kind, to_rect, to_node, stored, after}
-use Rattle.stores.specs.StoreLaws.{length_stored, has_stored, node_at_stored_same, node_at_stored_other}
+use Rattle.stores.proofs.StoreLaws.{length_stored, has_stored, node_at_stored_same, node_at_stored_other}
 use Rattle.slots.specs.declared.AllocIndex.{AllocIndex}
 use Rattle.slots.specs.declared.NodeKind.{NodeKind}
 use Rattle.slots.specs.declared.NodeKind.TheVariants.{Alloc, Free}

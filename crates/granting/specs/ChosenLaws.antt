@@ -8,7 +8,7 @@ use Rattle.geometry.specs.declared.Setup.{Setup}
 use Rattle.slots.specs.Slots.{slot}
 use Rattle.table.specs.Table.{node_at, HasSlot}
 use Rattle.slots.specs.declared.AllocIndex.{AllocIndex}
-use Rattle.search.specs.FindLaws.{search_within, search_each}
+use Rattle.search.proofs.FindLaws.{search_within, search_each}
 use Rattle.choices.specs.Choices.{Searched}
 use Rattle.search.specs.Search.{find_suitable}
 use Rattle.choices.specs.declared.Chosen.TheVariants.{At, Nothing}

@@ -8,7 +8,7 @@ use Rattle.geometry.specs.declared.Rectangle.{Rectangle}
 use Rattle.geometry.specs.declared.Setup.{Setup}
 use Rattle.table.specs.Table.{HasSlot}
 use Rattle.stores.specs.Stores.{stored, to_rect}
-use Rattle.stores.specs.StoreLaws.{length_stored, has_stored}
+use Rattle.stores.proofs.StoreLaws.{length_stored, has_stored}
 use Rattle.slots.specs.declared.AllocIndex.{AllocIndex}
 use Rattle.buckets.specs.FreeLists.{Lists, lists}
 use Rattle.steps.specs.Spares.{Fresh, new_node, HasSpare}

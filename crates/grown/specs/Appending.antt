@@ -10,7 +10,7 @@ use Rattle.slots.specs.declared.AllocIndex.{AllocIndex}
 use Rattle.slots.specs.declared.NodeKind.TheVariants.{Free}
 use Rattle.table.specs.Table.{HasSlot}
 use Rattle.stores.specs.Stores.{stored, toNext, to_node}
-use Rattle.stores.specs.StoreLaws.{length_stored, has_stored}
+use Rattle.stores.proofs.StoreLaws.{length_stored, has_stored}
 use Rattle.steps.specs.Spares.{Fresh, new_node}
 use Rattle.steps.specs.State.{State, lists_of}
 use Rattle.steps.specs.declared.Head.{Head}

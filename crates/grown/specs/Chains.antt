@@ -18,7 +18,7 @@ use Rattle.forest.specs.Forest.{Forest, empty, slot, head, slots, Rep}
 use Rattle.forest.specs.Back.{by_place}
 use Rattle.forest.specs.Bridge.{forest}
 use Rattle.links.specs.LinkLaws.{link_none, link_some}
-use Rattle.links.specs.SpareLaws.{live_count}
+use Rattle.links.proofs.SpareLaws.{live_count}
 use Rattle.changes.specs.Lasts.{below_parent}
 use Rattle.grows.specs.Grows.{last_from}
 

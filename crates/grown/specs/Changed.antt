@@ -16,7 +16,7 @@ use Rattle.sound.specs.Sound.{Merged, SpareChain}
 use Rattle.forest.specs.Pigeon.{In}
 use Rattle.forest.specs.Ends.{EndsIn, ends_unique}
 use Rattle.forest.specs.Spare.{spare_steps}
-use Rattle.links.specs.SpareLaws.{unused_count}
+use Rattle.links.proofs.SpareLaws.{unused_count}
 use Rattle.changes.specs.Stretches.{Grown}
 use Rattle.lent.specs.Lent.{LentOf}
 use Rattle.grants.specs.Grants.{with_lists}

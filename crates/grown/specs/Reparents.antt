@@ -10,7 +10,7 @@ use Rattle.slots.specs.Slots.{slot, is_none}
 use Rattle.slots.specs.declared.AllocIndex.{AllocIndex}
 use Rattle.table.specs.Table.{node_at, HasSlot}
 use Rattle.stores.specs.Stores.{stored, to_parent}
-use Rattle.stores.specs.StoreLaws.{length_stored, has_stored}
+use Rattle.stores.proofs.StoreLaws.{length_stored, has_stored}
 use Rattle.sound.specs.View.{Link, to, link_of, Seen, seen}
 use Rattle.sound.specs.Rules.{Visits, it, later}
 use Rattle.sound.specs.ViewLaws.{to_inj, no_link}

@@ -11,7 +11,7 @@ use Rattle.slots.specs.declared.AllocIndex.{AllocIndex}
 use Rattle.slots.specs.declared.NodeKind.TheVariants.{Free}
 use Rattle.table.specs.Table.{HasSlot}
 use Rattle.stores.specs.Stores.{stored, to_rect}
-use Rattle.stores.specs.StoreLaws.{length_stored}
+use Rattle.stores.proofs.StoreLaws.{length_stored}
 use Rattle.steps.specs.State.{State, lists_of}
 use Rattle.sound.specs.View.{none, Seen, seen, Live}
 use Rattle.sound.specs.Rules.{NotEmpty, Adjoin, join}

@@ -19,8 +19,8 @@ use Rattle.places.specs.RuleLaws.{live_slots, FirstsRight, walk_linked, linked_w
 use Rattle.joins.specs.declared.Placed.{Placed}
 use Rattle.links.specs.Links.{links_at, merged_at}
 use Rattle.links.specs.FirstLaws.{Firsts}
-use Rattle.links.specs.MergedLaws.{merged_yes, merged_no}
-use Rattle.links.specs.SpareLaws.{live_count}
+use Rattle.links.proofs.MergedLaws.{merged_yes, merged_no}
+use Rattle.links.proofs.SpareLaws.{live_count}
 use Rattle.links.specs.TestLaws.{Says, fails, both_say, says_as, equal_says}
 use Rattle.scans.specs.Tests.{filled_at, not_last_at, settled_at, holds_at}
 use Rattle.marks.specs.Marks.{listed_at}

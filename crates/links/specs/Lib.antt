@@ -5,6 +5,4 @@ pub mod LinkLaws
 pub mod LinkedLaws
 pub mod Links
 pub mod MergedLaws
-pub mod SpareLaws
 pub mod TestLaws
-pub mod TurnLaws

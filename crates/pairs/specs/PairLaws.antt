@@ -3,7 +3,7 @@
 use Rattle.std.specs.Prelude.{◌≡◌, List, ℕ, suc}
 use Rattle.stores.specs.Stores.{Store, stored}
 use Rattle.slots.specs.declared.AllocIndex.{AllocIndex}
-use Rattle.stores.specs.StoreLaws.{has_stored}
+use Rattle.stores.proofs.StoreLaws.{has_stored}
 use Rattle.steps.specs.Spares.{Fresh, new_node}
 use Rattle.steps.specs.declared.Head.{Head}
 use Rattle.pairs.specs.Pairs.{Pair, two_nodes, CanTake, LinkHas}

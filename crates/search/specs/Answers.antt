@@ -23,8 +23,10 @@ use Rattle.lists.specs.Counts.{occurrences}
 use Rattle.lists.specs.OccurrenceLaws.{occurs_at}
 use Rattle.buckets.specs.FreeListLaws.{list_of_with_list_same}
 use Rattle.fits.specs.Thinned.{Thinned, thinned_twice}
-use Rattle.fits.specs.ScanLaws.{list_in, looking_ends}
-use Rattle.fits.specs.Candidates.{Scanning, SoFar, scan_scans}
+use Rattle.fits.specs.ScanLaws.{list_in}
+use Rattle.fits.proofs.ScanLaws.{looking_ends}
+use Rattle.fits.specs.Candidates.{Scanning, SoFar}
+use Rattle.fits.proofs.Candidates.{scan_scans}
 use Rattle.choices.specs.ChoiceLaws.{one_thins, one_searchable}
 
 -- What is known of the slot that a search of some buckets chose: its entry's place, and that it suits.

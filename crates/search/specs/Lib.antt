@@ -1,4 +1,3 @@
 pub mod Search
-pub mod SearchLaws
 pub mod Answers
 pub mod FindLaws

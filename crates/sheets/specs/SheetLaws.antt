@@ -13,12 +13,12 @@ use Rattle.geometry.specs.declared.Setup.{Setup}
 use Rattle.geometry.specs.declared.Size.{Size}
 use Rattle.slots.specs.Slots.{slot, none}
 use Rattle.table.specs.Table.{HasSlot}
-use Rattle.stores.specs.StoreLaws.{length_stored}
+use Rattle.stores.proofs.StoreLaws.{length_stored}
 use Rattle.stores.specs.Stores.{stored, to_node}
 use Rattle.slots.specs.declared.Node.{Node}
 use Rattle.lists.specs.Lists.{Bag, bag, appended, Entries}
 use Rattle.pushes.specs.Pushes.{Pushable}
-use Rattle.pushes.specs.PushLaws.{room_given, push_appends}
+use Rattle.pushes.proofs.PushLaws.{room_given, push_appends}
 use Rattle.buckets.specs.FreeLists.{Lists, lists, list_of, with_list, pushed_to}
 use Rattle.buckets.specs.declared.Lengths.{Lengths}
 use Rattle.steps.specs.State.{state}

@@ -16,7 +16,7 @@ use Rattle.geometry.specs.declared.Rectangle.{Rectangle}
 use Rattle.geometry.specs.declared.Size.{Size}
 use Rattle.slots.specs.Slots.{slot, none}
 use Rattle.table.specs.Table.{node_at}
-use Rattle.stores.specs.StoreLaws.{node_at_stored_same}
+use Rattle.stores.proofs.StoreLaws.{node_at_stored_same}
 use Rattle.stores.specs.Stores.{stored, to_node}
 use Rattle.slots.specs.declared.NodeKind.TheVariants.{Free}
 use Rattle.lists.specs.Lists.{Bag, bag, appended, Each}

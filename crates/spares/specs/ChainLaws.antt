@@ -18,7 +18,7 @@ use Rattle.sound.specs.Sound.{SpareChain}
 use Rattle.forest.specs.Ends.{EndsIn}
 use Rattle.forest.specs.Spare.{spare_steps}
 use Rattle.links.specs.LinkLaws.{link_none, link_names}
-use Rattle.links.specs.SpareLaws.{unused_count}
+use Rattle.links.proofs.SpareLaws.{unused_count}
 use Rattle.spares.specs.Chains.{chain_has, SpareReady}
 
 -- A step of the walk: past n it ends, below n it goes on, and after the last step it has them all.

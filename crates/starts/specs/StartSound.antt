@@ -9,7 +9,7 @@ use Rattle.geometry.specs.declared.Bucket.TheVariants.{Small, Medium, Large}
 use Rattle.geometry.specs.declared.Setup.{Setup}
 use Rattle.slots.specs.Slots.{slot}
 use Rattle.stores.specs.Stores.{stored, to_node}
-use Rattle.stores.specs.StoreLaws.{length_stored}
+use Rattle.stores.proofs.StoreLaws.{length_stored}
 use Rattle.lists.specs.Lists.{appended}
 use Rattle.buckets.specs.FreeLists.{list_of, with_list}
 use Rattle.geometry.specs.declared.AllocatorOptions.{AllocatorOptions}

@@ -8,7 +8,7 @@ use Rattle.slots.specs.declared.AllocIndex.{AllocIndex}
 use Rattle.slots.specs.declared.Node.{Node}
 use Rattle.table.specs.Table.{node_at, HasSlot}
 use Rattle.stores.specs.Stores.{stored, to_parent}
-use Rattle.stores.specs.StoreLaws.{length_stored, has_stored, node_at_stored_same, node_at_stored_other}
+use Rattle.stores.proofs.StoreLaws.{length_stored, has_stored, node_at_stored_same, node_at_stored_other}
 use Rattle.grows.specs.Grows.{last_from, reparented}
 use Rattle.stretches.specs.Chains.{ChainHas}
 

@@ -8,7 +8,8 @@ use Rattle.geometry.specs.declared.Setup.{Setup}
 use Rattle.geometry.specs.declared.Size.{Size}
 use Rattle.buckets.specs.FreeLists.{Lists}
 use Rattle.links.specs.Links.{firsts_to}
-use Rattle.links.specs.FirstLaws.{Firsts, firsts_of_none_links, firsts_front}
+use Rattle.links.specs.FirstLaws.{Firsts}
+use Rattle.links.proofs.FirstLaws.{firsts_of_none_links, firsts_front}
 use Rattle.marks.specs.Marks.{marks_from, marks_of}
 use Rattle.walked.specs.Trees.{firsts_of, TreeReady}
 use Rattle.judged.specs.Judged.{Prepared, Judged}

@@ -4,7 +4,7 @@ use mathlib.Core.Path.{sym, ◌∙◌}
 use native.Mathlib.Omega.{arith}
 use borrow.Author.Rules.{rules}
 use Rattle.links.specs.Links.{entered}
-use Rattle.links.specs.TurnLaws.{first_parent}
+use Rattle.links.proofs.TurnLaws.{first_parent}
 use Rattle.firsts.proofs.enter.Statement.{statement}
 use Rattle.firsts.proofs.enter.Tie as tie
 

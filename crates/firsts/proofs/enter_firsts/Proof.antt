@@ -5,7 +5,7 @@ use Prim.Native.Nat.{◌≤◌, ◌-◌}
 use native.Mathlib.Omega.{arith}
 use lib.ListN.{length}
 use Rattle.links.specs.Links.{firsts_to}
-use Rattle.links.specs.TurnLaws.{firsts_more}
+use Rattle.links.proofs.TurnLaws.{firsts_more}
 use Rattle.firsts.proofs.enter_firsts.Statement.{statement}
 use Rattle.firsts.proofs.enter_firsts.Tie as tie
 

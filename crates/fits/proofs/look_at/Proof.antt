@@ -2,7 +2,7 @@
 -- Assumes nothing.
 use mathlib.Core.Path.{sym, ◌∙◌}
 use borrow.Author.Rules.{rules}
-use Rattle.fits.specs.ScanLaws.{entry_corners, look_free, look_dead}
+use Rattle.fits.proofs.ScanLaws.{entry_corners, look_free, look_dead}
 use Rattle.fits.proofs.look_at.Statement.{statement}
 use Rattle.fits.proofs.look_at.Tie as tie
 

@@ -7,7 +7,7 @@ use lib.ListN.{length}
 use borrow.Author.Rules.{rules}
 use Rattle.lists.specs.Lists.{bag}
 use Rattle.fits.specs.Scans.{scanned, looking, scan_all, Ready, Open}
-use Rattle.fits.specs.ScanLaws.{look_left, look_ready, look_open, looking_past, looking_enough, looking_on}
+use Rattle.fits.proofs.ScanLaws.{look_left, look_ready, look_open, looking_past, looking_enough, looking_on}
 use Rattle.fits.proofs.scan_list.Statement.{statement}
 use Rattle.fits.proofs.scan_list.Tie as tie
 

@@ -2,7 +2,7 @@
 -- Assumes nothing.
 use mathlib.Core.Path.{sym, ◌∙◌}
 use borrow.Author.Rules.{rules}
-use Rattle.fits.specs.ScanLaws.{beats_enough, exact_ends, beaten_kept, unbeaten_passed}
+use Rattle.fits.proofs.ScanLaws.{beats_enough, exact_ends, beaten_kept, unbeaten_passed}
 use Rattle.fits.proofs.weigh.Statement.{statement}
 use Rattle.fits.proofs.weigh.Tie as tie
 

@@ -6,7 +6,7 @@ use native.Mathlib.Omega.{arith}
 use borrow.Author.Rules.{rules}
 use Rattle.links.specs.Links.{siblings_agree, family_agrees, links_at}
 use Rattle.links.specs.TestLaws.{passed, failed}
-use Rattle.links.specs.TurnLaws.{sane_each, link_below, link_names_slot}
+use Rattle.links.proofs.TurnLaws.{sane_each, link_below, link_names_slot}
 use Rattle.linked.proofs.links_at.Statement.{statement}
 use Rattle.linked.proofs.links_at.Tie as tie
 

@@ -4,7 +4,7 @@
 use mathlib.Core.Path.{◌≡◌, refl, ◌∙◌}
 use native.Mathlib.Omega.{arith}
 use Rattle.links.specs.Links.{spare_walk}
-use Rattle.links.specs.TurnLaws.{walk_on, walk_past, walk_at_live, walk_done}
+use Rattle.links.proofs.TurnLaws.{walk_on, walk_past, walk_at_live, walk_done}
 use Rattle.links.specs.TestLaws.{passed, failed}
 use Rattle.merged.proofs.spare_walk.Statement.{statement}
 use Rattle.merged.proofs.spare_walk.Tie as tie

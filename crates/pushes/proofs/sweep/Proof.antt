@@ -4,7 +4,7 @@ use borrow.Author.Rules.{rules}
 use mathlib.Core.Path.{ap, ◌∙◌}
 use Rattle.lists.specs.Lists.{bag}
 use Rattle.pushes.specs.Sweeps.{Sweeping}
-use Rattle.pushes.specs.SweepLaws.{sweep_runs}
+use Rattle.pushes.proofs.SweepLaws.{sweep_runs}
 use Rattle.pushes.proofs.sweep.Statement.{statement}
 use Rattle.pushes.proofs.sweep.Tie as tie
 

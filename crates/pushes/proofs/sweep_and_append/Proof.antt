@@ -1,7 +1,7 @@
 -- `pushes::sweep_and_append` meets its contract: a sweep makes room (`room_swept`).
 -- Assumes nothing.
 use borrow.Author.Rules.{rules}
-use Rattle.pushes.specs.PushLaws.{room_swept}
+use Rattle.pushes.proofs.PushLaws.{room_swept}
 use Rattle.pushes.proofs.sweep_and_append.Statement.{statement}
 use Rattle.pushes.proofs.sweep_and_append.Tie as tie
 

@@ -4,7 +4,8 @@ use Prim.Native.Nat.{◌≤◌, ◌-◌}
 use mathlib.Core.Path.{◌≡◌, refl}
 use native.Mathlib.Omega.{arith}
 use Rattle.pushes.specs.Sweeps.{sweeping, sweep_to}
-use Rattle.pushes.specs.SweepLaws.{Ahead, start_ahead, next_ahead, next_sweep, ahead_sweepable}
+use Rattle.pushes.specs.SweepLaws.{Ahead}
+use Rattle.pushes.proofs.SweepLaws.{start_ahead, next_ahead, next_sweep, ahead_sweepable}
 use Rattle.pushes.proofs.sweep_marked.Statement.{statement}
 use Rattle.pushes.proofs.sweep_marked.Tie as tie
 

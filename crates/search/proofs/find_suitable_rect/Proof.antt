@@ -1,7 +1,7 @@
 -- `find_suitable_rect` is the search from the request's bucket, by the query that the bucket makes.
 -- Assumes nothing.
 use borrow.Author.Rules.{rules}
-use Rattle.search.specs.SearchLaws.{suitable_found}
+use Rattle.search.proofs.SearchLaws.{suitable_found}
 use Rattle.search.proofs.find_suitable_rect.Statement.{statement}
 use Rattle.search.proofs.find_suitable_rect.Tie as tie
 

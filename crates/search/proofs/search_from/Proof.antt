@@ -3,7 +3,7 @@
 use borrow.Author.Rules.{rules}
 use mathlib.Core.Path.{◌∙◌}
 use Rattle.choices.specs.ChoiceLaws.{one_searchable}
-use Rattle.search.specs.SearchLaws.{on_searchable, up_thrice}
+use Rattle.search.proofs.SearchLaws.{on_searchable, up_thrice}
 use Rattle.search.proofs.search_from.Statement.{statement}
 use Rattle.search.proofs.search_from.Tie as tie
 

@@ -2,7 +2,7 @@
 -- Assumes nothing.
 use borrow.Author.Rules.{rules}
 use mathlib.Core.Path.{refl, sym, ◌∙◌}
-use Rattle.search.specs.SearchLaws.{on_ends, on_above}
+use Rattle.search.proofs.SearchLaws.{on_ends, on_above}
 use Rattle.search.proofs.search_on.Statement.{statement}
 use Rattle.search.proofs.search_on.Tie as tie
 

@@ -16,7 +16,8 @@ use Rattle.lists.specs.Counts.{bit, count, holds, occurrences}
 use Rattle.lists.specs.CountLaws.{count_same}
 use Rattle.lists.specs.OccurrenceLaws.{occurrences_appended}
 use Rattle.pushes.specs.Pushes.{keeps, keepers, swept, pushed, Pushable}
-use Rattle.pushes.specs.PushLaws.{ready, pushed_ready, ready_elim, room_ready}
+use Rattle.pushes.specs.PushLaws.{ready}
+use Rattle.pushes.proofs.PushLaws.{pushed_ready, ready_elim, room_ready}
 
 -- An entry that occurs stands at a filled place.
 pub occurring : (x : ℕ) (t : List ℕ) (n : ℕ) → 0 < occurrences x (bag t n) → occurs t x n ≡ true

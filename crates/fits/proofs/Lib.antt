@@ -1,0 +1,2 @@
+pub mod Candidates
+pub mod ScanLaws

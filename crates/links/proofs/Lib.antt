@@ -1,0 +1,6 @@
+pub mod AgreeLaws
+pub mod FirstLaws
+pub mod LinkedLaws
+pub mod MergedLaws
+pub mod SpareLaws
+pub mod TurnLaws
