@@ -10,7 +10,7 @@ use Rattle.geometry.specs.declared.Setup.{Setup}
 use Rattle.slots.specs.Slots.{slot}
 use Rattle.table.specs.Table.{HasSlot}
 use Rattle.slots.specs.declared.AllocIndex.{AllocIndex}
-use Rattle.lists.specs.Lists.{Bag, removed}
+use Rattle.lists.specs.Lists.{removed}
 use Rattle.pushes.specs.Pushes.{pushed}
 use Rattle.buckets.specs.FreeLists.{Lists, list_of, removed_from}
 use Rattle.buckets.specs.FreeListLaws.{with_list_elim}

@@ -1,6 +1,5 @@
 -- `stores::copy_rect` meets its contract: no word that is read was written (`copied`).
 -- Assumes nothing.
-use borrow.Author.Rules.{rules}
 use Rattle.stores.proofs.StoreLaws.{copied}
 use Rattle.stores.proofs.copy_rect.Goals as goal
 

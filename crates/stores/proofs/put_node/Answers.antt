@@ -1,5 +1,4 @@
 use Rattle.stores.specs.Stores.{stored, stored_rect}
-use borrow.Author.Rules.{rules}
 use Rattle.stores.proofs.put_node.Goals as goal
 
 pub returns : goal.returns

@@ -1,5 +1,4 @@
 use Rattle.stores.specs.Stores.{stored}
-use borrow.Author.Rules.{rules}
 use Rattle.stores.proofs.set_kind.Goals as goal
 
 pub returns : goal.returns
