@@ -1,5 +1,6 @@
 -- The table of first children: what enter_firsts leaves in a table of none-links.
 -- Assumes nothing.
+use Rattle.std.proofs.lemmas.Bool.{false≢true}
 use Rattle.std.specs.Prelude.{◌≡◌, Bool, true, false, List, ◌↔◌, ◌⊎◌, length, set, take, replicate, eqb}
 use Rattle.std.proofs.Math.Path.{refl}
 use Rattle.std.proofs.Common.{sym, ◌∙◌, arith, get_or-set_same, get_or-set_other, get_or-take, length-take-le}

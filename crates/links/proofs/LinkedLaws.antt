@@ -1,5 +1,6 @@
 -- RULE 3, EXACT: the tests of all slots, and a forest of all live slots that follows from a live root, are rule 3.
 -- Assumes nothing.
+use Rattle.std.proofs.lemmas.Bool.{false≢true}
 use Rattle.std.specs.Prelude.{◌≡◌, refl, true, false, List, ℕ, ◌-◌, ◌<◌, get_or, take}
 use Rattle.std.proofs.Common.{ap, ◌∙◌, get_or-take}
 use Rattle.std.proofs.Math.Path.{sym}

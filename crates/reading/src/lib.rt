@@ -8,6 +8,7 @@ ghost use Rattle.std.specs.Prelude.{◌≡◌};
 ghost use Rattle.reading.specs.Bits.{signed};
 
 pub use lines::{Line, Reading, is_blank, next_line, unread};
+use std::io;
 
 // The i32 with these bits.
 pub fn signed(bits: u32) -> i32
@@ -28,8 +29,6 @@ pub fn more(n: u64) -> u64 {
 }
 
 // Writes words and a number on a line.
-pub fn say(words: &[u8], number: u64) {
-    io::write_all(1, words);
-    io::print_decimal(1, number);
-    io::write_all(1, b"\n");
+pub fn say(rt: &impl Print, words: &str, number: u64) -> io::Result<()> {
+    println!(rt; "{words}{number}")
 }

@@ -1,9 +1,11 @@
 // Lines of decimal numbers on standard input, taken a byte at a time.
-ghost use Rattle.std.specs.Prelude.{◌≤◌, ◌<◌};
+ghost use Rattle.std.specs.Prelude.{◌≤◌, ◌<◌, IfOk};
+
+use std::io::{self, Read};
 
 // A line as far as it is read: how many of its numbers are closed, the one that is open, and whether anything
 // on it was out of form.
-#[derive(Drop)]
+#[derive(Clone, Copy)]
 pub struct Line {
     pub count: usize,
     pub open: bool,
@@ -13,7 +15,7 @@ pub struct Line {
 
 // The input: the line that was read last, whether its end was reached, the bytes of the buffer that were read and not taken
 // yet, from at up to end, and whether the input came to its end.
-#[derive(Drop)]
+#[derive(Clone, Copy)]
 pub struct Reading {
     pub line: Line,
     pub whole: bool,
@@ -121,18 +123,18 @@ fn cut_off(line: Line) -> Line {
 }
 
 // Reads on where every byte that was read is taken.
-fn filled(buffer: &mut [u8; 65536], reading: Reading) -> Reading
+fn filled<R: Read>(input: &mut R, buffer: &mut [u8; 65536], reading: Reading) -> io::Result<Reading>
     requires { reading.end ≤ 65536 }
-    ensures { result.end ≤ 65536 }
+    ensures { IfOk result (λ after. after.end ≤ 65536) }
 {
     if reading.at < reading.end {
-        return reading;
+        return Ok(reading);
     }
-    let n = io::read_full(0, buffer);
+    let n = input.read(buffer)?;
     let mut after = reading;
     after.at = 0;
     after.end = n;
-    after
+    Ok(after)
 }
 
 // Takes the next byte of the buffer.
@@ -155,19 +157,23 @@ fn take_byte(numbers: &mut [u32; 128], buffer: &[u8; 65536], reading: Reading) -
 }
 
 // Takes a byte, or sees that none is left.
-fn advanced(numbers: &mut [u32; 128], buffer: &mut [u8; 65536], reading: Reading) -> Reading
+fn advanced<R: Read>(
+    input: &mut R,
+    numbers: &mut [u32; 128],
+    buffer: &mut [u8; 65536],
+    reading: Reading,
+) -> io::Result<Reading>
     requires { reading.end ≤ 65536 }
-    ensures { result.end ≤ 65536 }
+    ensures { IfOk result (λ after. after.end ≤ 65536) }
 {
-    let ready = filled(buffer, reading);
+    let ready = filled(input, buffer, reading)?;
     if ready.at < ready.end {
-        return take_byte(numbers, buffer, ready);
+        return Ok(take_byte(numbers, buffer, ready));
     }
-    let line = ready.line;
     let mut after = ready;
-    after.line = cut_off(line);
+    after.line = cut_off(ready.line);
     after.ended = true;
-    after
+    Ok(after)
 }
 
 fn is_open(reading: Reading) -> bool {
@@ -179,17 +185,22 @@ fn is_open(reading: Reading) -> bool {
 
 // Reads the next line, its numbers into numbers. Nothing says that a line ends, so the loop counts its turns down from a
 // number that no run uses up.
-pub fn next_line(numbers: &mut [u32; 128], buffer: &mut [u8; 65536], reading: Reading) -> Reading
+pub fn next_line<R: Read>(
+    input: &mut R,
+    numbers: &mut [u32; 128],
+    buffer: &mut [u8; 65536],
+    reading: Reading,
+) -> io::Result<Reading>
     requires { reading.end ≤ 65536 }
-    ensures { result.end ≤ 65536 }
+    ensures { IfOk result (λ after. after.end ≤ 65536) }
 {
     let mut now = reading;
     now.line = blank();
     now.whole = false;
     let mut turns = u64::MAX;
     while turns > 0 && is_open(now) {
-        now = advanced(numbers, buffer, now);
+        now = advanced(input, numbers, buffer, now)?;
         turns -= 1;
     }
-    now
+    Ok(now)
 }

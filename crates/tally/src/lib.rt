@@ -13,7 +13,7 @@ pub fn is_call(kind: u32) -> bool {
     kind <= 6
 }
 
-#[derive(Drop)]
+#[derive(Clone, Copy)]
 pub enum Verdict {
     // Our code gives what the list says.
     Agrees,
@@ -28,7 +28,7 @@ pub enum Verdict {
 }
 
 // The lines so far, and where the first mismatch and the first fault stood: line 0 where there was none.
-#[derive(Drop)]
+#[derive(Clone, Copy)]
 pub struct Tally {
     pub lines: u64,
     pub told: u64,
@@ -106,7 +106,7 @@ fn counted(tally: Tally, kind: u32, at: u64, verdict: Verdict) -> Tally {
 }
 
 // The call that is open: its kind, 0 where none is, and its line.
-#[derive(Drop)]
+#[derive(Clone, Copy)]
 pub struct Call {
     pub kind: u32,
     pub at: u64,

@@ -1,55 +1,55 @@
 // What the program writes at the end.
 use crate::Tally;
 use reading::say;
+use std::io;
 
 // A kind of line, as docs/ORACLE.md numbers them, and how many there were.
-fn say_kind(kind: u64, number: u64) {
-    io::write_all(1, b"  of kind ");
-    io::print_decimal(1, kind);
-    say(b": ", number);
+fn say_kind(rt: &impl Print, kind: u64, number: u64) -> io::Result<()> {
+    println!(rt; "  of kind {kind}: {number}")
 }
 
 // The kinds that are not replayed.
-fn report_later(counts: &[u64; 32]) {
-    say_kind(7, counts[7]);
-    say_kind(8, counts[8]);
+fn report_later(rt: &impl Print, counts: &[u64; 32]) -> io::Result<()> {
+    say_kind(rt, 7, counts[7])?;
+    say_kind(rt, 8, counts[8])
 }
 
 // Where the first line stood that our code does not agree with, and the first that is out of form.
-fn report_firsts(tally: Tally) {
+fn report_firsts(rt: &impl Print, tally: Tally) -> io::Result<()> {
     if tally.mismatches > 0 {
-        say(b"first mismatch on line ", tally.first_mismatch);
-        say(b"  of kind ", tally.mismatch_kind as u64);
+        say(rt, "first mismatch on line ", tally.first_mismatch)?;
+        say(rt, "  of kind ", tally.mismatch_kind as u64)?;
     }
     if tally.faults > 0 {
-        say(b"first fault on line ", tally.first_fault);
+        say(rt, "first fault on line ", tally.first_fault)?;
     }
+    Ok(())
 }
 
-fn report_agreed(counts: &[u64; 32]) {
-    say(b"buckets agree ", counts[20]);
-    say(b"roundings agree ", counts[21]);
-    say(b"cuts agree ", counts[22]);
+fn report_agreed(rt: &impl Print, counts: &[u64; 32]) -> io::Result<()> {
+    say(rt, "buckets agree ", counts[20])?;
+    say(rt, "roundings agree ", counts[21])?;
+    say(rt, "cuts agree ", counts[22])
 }
 
 // The calls whose whole state agrees.
-fn report_calls(counts: &[u64; 32]) {
-    say(b"starts agree ", counts[1]);
-    say(b"allocates agree ", counts[2]);
-    say(b"deallocates agree ", counts[3]);
-    say(b"grows agree ", counts[4]);
-    say(b"clears agree ", counts[5]);
-    say(b"resets agree ", counts[6]);
+fn report_calls(rt: &impl Print, counts: &[u64; 32]) -> io::Result<()> {
+    say(rt, "starts agree ", counts[1])?;
+    say(rt, "allocates agree ", counts[2])?;
+    say(rt, "deallocates agree ", counts[3])?;
+    say(rt, "grows agree ", counts[4])?;
+    say(rt, "clears agree ", counts[5])?;
+    say(rt, "resets agree ", counts[6])
 }
 
-pub fn report(counts: &[u64; 32], tally: Tally) {
-    say(b"lines ", tally.lines);
-    report_agreed(counts);
-    report_calls(counts);
-    say(b"  lines that tell of these calls ", tally.told);
-    say(b"mismatches ", tally.mismatches);
-    say(b"faults ", tally.faults);
-    report_firsts(tally);
-    say(b"lines not replayed ", tally.later);
-    report_later(counts);
+pub fn report(rt: &impl Print, counts: &[u64; 32], tally: Tally) -> io::Result<()> {
+    say(rt, "lines ", tally.lines)?;
+    report_agreed(rt, counts)?;
+    report_calls(rt, counts)?;
+    say(rt, "  lines that tell of these calls ", tally.told)?;
+    say(rt, "mismatches ", tally.mismatches)?;
+    say(rt, "faults ", tally.faults)?;
+    report_firsts(rt, tally)?;
+    say(rt, "lines not replayed ", tally.later)?;
+    report_later(rt, counts)
 }

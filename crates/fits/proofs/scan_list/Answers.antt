@@ -16,7 +16,7 @@ loop-s-smaller c = look_left _ _ _ _ c.loop-s-test.true c.look_at-s.ensures
 pub loop-s-preserved : goal.loop-s-preserved
 loop-s-preserved c = let t = c.loop-s-test.true in
     let i = c.loop-s.invariant in
-    (look_ready _ _ _ _ t c.look_at-s.ensures i.0, c.look_at-s.auto.1.0 ∙ i.1, look_open _ _ _ _ t c.look_at-s.ensures i.2, looking_on _ _ _ _ t c.look_at-s.ensures ∙ i.3)
+    (look_ready _ _ _ _ t c.look_at-s.ensures i.0, c.look_at-s.auto.list ∙ i.1, look_open _ _ _ _ t c.look_at-s.ensures i.2, looking_on _ _ _ _ t c.look_at-s.ensures ∙ i.3)
 
 pub returns : goal.returns
 returns c = sym (looking_past _ _ _ _ c.loop-s-test.false) ∙ c.loop-s.invariant.3

@@ -9,7 +9,7 @@ pub returns-then-shifted-eq-SHIFT : goal.returns-then-shifted-eq-SHIFT
 returns-then-shifted-eq-SHIFT c = exact_ends _ _ _ _ c.shifted_score-shifted.ensures.0 c.if-shifted-eq-SHIFT.true
 
 pub overflow_sub-result : goal.overflow_sub-result
-overflow_sub-result c = ?   -- no old answer (['sub-t13'])
+overflow_sub-result c = beats_enough _ _ _ (sym c.beats.ensures ∙ c.if-beats.true)
 
 pub returns-then-beats : goal.returns-then-beats
 returns-then-beats c = let n = c.shifted_score-shifted.ensures in

@@ -1,0 +1,7 @@
+use Rattle.starts.specs.Starts.{clear_call}
+use borrow.Author.Rules.{rules}
+use Rattle.starts.proofs.clear.Goals as goal
+
+pub returns : goal.returns
+unfolding clear_call
+returns c = c.start.ensures
