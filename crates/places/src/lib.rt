@@ -48,7 +48,7 @@ fn line_below(words: &[u32], firsts: &[u32], i: AllocIndex, o: Orientation, left
 }
 
 // The place of slot i, with what is below it.
-#[cycle(place_of_chain_place_of_container_place_of_slot)]
+#[cycle(walk)]
 fn place_of_slot(words: &[u32], firsts: &[u32], i: AllocIndex, node: Node, left: u32) -> Placed
     requires { Ready words.now firsts.now × Held words.now firsts.now i.0 node left }
     ensures { Slotted words.now firsts.now i.0 node.orientation left result }
@@ -64,7 +64,7 @@ fn place_of_slot(words: &[u32], firsts: &[u32], i: AllocIndex, node: Node, left:
 }
 
 // The place of a Container: that of its chain of children, which run along o.
-#[cycle(place_of_chain_place_of_container_place_of_slot)]
+#[cycle(walk)]
 fn place_of_container(
     words: &[u32],
     firsts: &[u32],
@@ -91,7 +91,7 @@ fn place_of_container(
 
 // The place of the chain that starts at slot first, under parent, along o. firsts has the first child of each Container below its length.
 // A call stands for each Container on the way down to a slot, but for those whose only child is a Container.
-#[cycle(place_of_chain_place_of_container_place_of_slot)]
+#[cycle(walk)]
 pub fn place_of_chain(
     words: &[u32],
     firsts: &[u32],

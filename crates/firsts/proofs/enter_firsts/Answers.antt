@@ -8,8 +8,6 @@ use Rattle.links.specs.Links.{firsts_to}
 use Rattle.links.proofs.TurnLaws.{firsts_more}
 use Rattle.firsts.proofs.enter_firsts.Goals as goal
 
-)
-
 pub loop-i-init : goal.loop-i-init
 unfolding firsts_to
 loop-i-init c = (omega arith, refl, refl)
@@ -19,3 +17,4 @@ loop-i-preserved c = (
   omega arith,
   c.enter.ensures ∙ rw c.loop-i.invariant.1 (firsts_more _ _ _ _),
   c.enter.auto.firsts ∙ c.loop-i.invariant.2,
+)

@@ -15,15 +15,15 @@ returns-then-same_kind c = rw (← c.node_at-node.ensures, sym c.same_kind.ensur
 pub returns-then-not-is_none : goal.returns-then-not-is_none
 unfolding is_first
 returns-then-not-is_none c = rw (
-      ← c.node_at-node.ensures,
-      sym c.same_kind.ensures ∙ c.if-same_kind.false,
-      failed c.is_none.ensures (ap not c.if-not-is_none.true),
-    )
+  ← c.node_at-node.ensures,
+  sym c.same_kind.ensures ∙ c.if-same_kind.false,
+  failed c.is_none.ensures (ap not c.if-not-is_none.true),
+)
 
 pub returns : goal.returns
 unfolding is_first
 returns c = rw (
-      ← c.node_at-node.ensures,
-      sym c.same_kind.ensures ∙ c.if-same_kind.false,
-      passed c.is_none.ensures (ap not c.if-not-is_none.false),
-    )
+  ← c.node_at-node.ensures,
+  sym c.same_kind.ensures ∙ c.if-same_kind.false,
+  passed c.is_none.ensures (ap not c.if-not-is_none.false),
+)

@@ -10,31 +10,30 @@ use Rattle.links.specs.Links.{merged_at}
 use Rattle.links.specs.TestLaws.{passed, failed}
 use Rattle.merged.proofs.merged_at.Goals as goal
 
--- What is left of the test of a Free slot without next.
-last-passed : (c : tie.Then2) → let a = c.before.before.before.before.before.before.before.before.before.args in let m = c.before.before.before.before.before.before.before.Node-at.result in
-    merged_at a.words.now a.n a.i.0 ≡ (not (is_none m.prev) || is_none m.parent)
-unfolding merged_at
-last-passed c =
-    let free = c.before.before.before.before.before in
-    rw (
-      ← free.before.before.Node-at.ensures,
-      passed free.before.same_kind.ensures free.if1.false,
-      le-leb _ _ c.if2.true,
-    )
-
 pub returns-then-not-same_kind : goal.returns-then-not-same_kind
 unfolding merged_at
 returns-then-not-same_kind c = rw (← c.node_at-node.ensures, failed c.same_kind.ensures (ap not c.if-not-same_kind.true))
 
 pub returns-then-is_none : goal.returns-then-is_none
-returns-then-is_none c = rw (last-passed kind.before, sym c.is_none.ensures ∙ c.if-is_none.true, c.is_none-then-is_none.ensures)
-
--- ! bare place kind.before
+unfolding merged_at
+returns-then-is_none c =
+    rw (
+      ← c.node_at-node.ensures,
+      passed c.same_kind.ensures (ap not c.if-not-same_kind.false),
+      le-leb _ _ c.if-next-n.true,
+      sym c.is_none.ensures ∙ c.if-is_none.true,
+      c.is_none-then-is_none.ensures,
+    )
 
 pub returns-then-next-n : goal.returns-then-next-n
-returns-then-next-n c = rw (last-passed c.before.before, sym c.is_none.ensures ∙ c.if-is_none.false)
-
--- ! bare place c.before.before
+unfolding merged_at
+returns-then-next-n c =
+    rw (
+      ← c.node_at-node.ensures,
+      passed c.same_kind.ensures (ap not c.if-not-same_kind.false),
+      le-leb _ _ c.if-next-n.true,
+      sym c.is_none.ensures ∙ c.if-is_none.false,
+    )
 
 pub returns : goal.returns
 unfolding merged_at

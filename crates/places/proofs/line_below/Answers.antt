@@ -1,0 +1,8 @@
+-- `places::line_below` meets its contract: each turn goes from a Container to its only child, a Container too.
+-- Assumes nothing.
+use mathlib.Core.Path.{refl, sym, ◌∙◌}
+use Rattle.places.specs.WalkLaws.{lined_on}
+use Rattle.places.proofs.line_below.Goals as goal
+
+pub loop-rest-preserved : goal.loop-rest-preserved
+loop-rest-preserved c = rw c.flipped-along.ensures (lined_on _ _ c.requires.0 _ _ _ _ _ _ _ c.loop-rest.invariant c.loop-rest-test.true refl (sym c.lone_at.ensures ∙ c.if-not-lone_at.false))
