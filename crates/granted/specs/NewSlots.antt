@@ -175,7 +175,7 @@ module _ {w g g' : List ℕ} {h h' : Head} {new : List ℕ} (few : length g ≤ 
 
 -- A chain that two tables agree on visits the same slots when it is followed in either, and ends in both.
 module _ (f f' : ℕ → Link) where
-  pub there : {m : Link} (a : ℕ) → ((j : ℕ) → Visits f j m → f' j ≡ f j) → Visits f a m → Visits f' a m
+  pub there : (a : ℕ) {m : Link} → ((j : ℕ) → Visits f j m → f' j ≡ f j) → Visits f a m → Visits f' a m
   there a h it = it
   there a h (later {i = i} v) = later {i = i} (rw (h i it) (there a (λ j u. h j (later {i = i} u)) v))
 

@@ -136,7 +136,7 @@ module _ (w : List ℕ) (n : ℕ) (s : Setup) (was : Lists) (slots : n * 8 ≤ l
       → Stocked w n s was (entered_all ps l) []
   unfolding entered_all
   all_stock [] K h r = K
-  all_stock (p ∷ ps) K h r = all_stock ps (push_stocks p K h.0 r.0) h.1 r.1
+  all_stock {l = l} (p ∷ ps) K h r = all_stock {l = entered w s (slot p.slot) p.rect l} ps (push_stocks p K h.0 r.0) h.1 r.1
 
   -- So after the pushes of a shape every Free slot has an entry.
   pub pieces_stock : {l : Lists} (shape : Shape) (m : CutSlots) (c : Cut) → Stocked w n s was l (slots_of (pieces_of shape m c))

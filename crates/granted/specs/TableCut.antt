@@ -1,7 +1,7 @@
 -- The slot table after the cut of a Free slot: it is carved as its shape says.
 -- Assumes nothing.
 use Rattle.std.specs.Prelude.{ℕ, ◌*◌, ◌≤◌, ◌≡◌, refl, List, [], ◌∷◌}
-use Rattle.std.proofs.Common.{sym, ◌∙◌, inl, inr, arith}
+use Rattle.std.proofs.Common.{sym, subst, ◌∙◌, inl, inr, arith}
 use Rattle.std.proofs.Math.Path.{ap}
 use Rattle.std.proofs.Math.ListN.{length}
 use Rattle.geometry.specs.Rectangles.{flip, no_rect}
@@ -60,7 +60,7 @@ module _ (w g : List ℕ) (h : Head) {root : ℕ} {all : Rectangle} (slots : len
   next_fine new g' h' T s m j e =
       let a = next_apart L lv new T.taken j e in
       let z = (L.near.next_live i.0 j lv e).0 in
-      (omega arith, λ x. a (inl x), λ x. a (inr (rw x m)))
+      (omega arith, λ x. a (inl x), λ x. a (inr (subst (λ (y : ℕ). In y new) (sym x) m)))
 
   -- THE TABLE. With its new slots taken, a cut of any shape carves the table.
   pub table_carved : (shape : Shape) (n : News) → n ≡ news_of shape w g h i → Taking w g h (new_ones shape n.slots) n.generations n.head
