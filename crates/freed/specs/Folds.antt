@@ -126,11 +126,14 @@ free_plain : (s : ℕ) (r : Rectangle) (n : Tree) → NotFree n → free_first s
 unfolding free_first
 free_plain s r end h = refl
 free_plain s r (alloc t q n) h = refl
+free_plain s r (free _ _ _) h = elim h [ ]
 free_plain s r (box t q c n) h = refl
 
 box_plain : (s : ℕ) (r : Rectangle) (c m : Tree) → Kids c → box_first s r c m ≡ box s r c m
 unfolding box_first
+box_plain s r end m k = elim k [ ]
 box_plain s r (alloc t q n) m k = refl
+box_plain s r (free t q end) m k = elim k [ ]
 box_plain s r (free t q (alloc u w n)) m k = refl
 box_plain s r (free t q (free u w n)) m k = refl
 box_plain s r (free t q (box u w c n)) m k = refl

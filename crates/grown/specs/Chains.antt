@@ -87,9 +87,9 @@ module _ (w : List ℕ) (n root : ℕ) (L : Linked (seen w) n root) where
       rw F.1.from_root at (rep_visits none (seen w root).orientation F.0 F.1.along j (F.1.all j l) p)
 
   -- and no other.
-  visits_on_top : (o : Orientation) (l : Link) (j : ℕ) → ((i : ℕ) → l ≡ to i → OnTop (seen w) n o i) → Visits (λ x. (seen w x).next) j l → OnTop (seen w) n o j
-  visits_on_top o l j h it = h j refl
-  visits_on_top o l j h (later {i = i} v) = visits_on_top o (seen w i).next j (λ k q. next_on_top o i k (h i refl) q) v
+  visits_on_top : (o : Orientation) (j : ℕ) (l : Link) → ((i : ℕ) → l ≡ to i → OnTop (seen w) n o i) → Visits (λ x. (seen w x).next) j l → OnTop (seen w) n o j
+  visits_on_top o j l h it = h j refl
+  visits_on_top o j l h (later {i = i} v) = visits_on_top o j (seen w i).next (λ k q. next_on_top o i k (h i refl) q) v
 
   pub visited_on_top : (j : ℕ) → Visits (λ x. (seen w x).next) j (to root) → OnTop (seen w) n (seen w root).orientation j
-  visited_on_top j v = visits_on_top (seen w root).orientation (to root) j (λ i q. rw (← to_inj q) root_on_top) v
+  visited_on_top j v = visits_on_top (seen w root).orientation j (to root) (λ i q. rw (← to_inj q) root_on_top) v

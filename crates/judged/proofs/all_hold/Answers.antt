@@ -1,8 +1,6 @@
-use mathlib.Core.Bool.{false≢true}
-use borrow.Author.Tests.{not-false, leb-true}
+use borrow.Author.Tests.{leb-true}
 use Rattle.judged.specs.JudgeLaws.{judge_holds}
-use borrow.Author.Rules.{rules}
 use Rattle.judged.proofs.all_hold.Goals as goal
 
 pub returns : goal.returns
-returns c = λ e. let p = c.requires in judge_holds _ _ _ _ _ _ p.0 p.1 (not-false _ c.if-not-filled.false) (not-false _ c.if-not-stored.false) c.lowest-loose.ensures (leb-true _ _ e)
+returns c = λ e. let p = c.requires in judge_holds _ _ _ _ _ _ p.0 p.1 (c.if-not-filled.false) (c.if-not-stored.false) c.lowest-loose.ensures (leb-true _ _ e)

@@ -1,6 +1,5 @@
 use borrow.Author.Tests.{not-true, not-false}
 use Rattle.judged.specs.Judged.{is_filled}
-use borrow.Author.Rules.{rules}
 use Rattle.judged.proofs.is_filled.Goals as goal
 
 pub returns-then-not-p : goal.returns-then-not-p
