@@ -1,5 +1,5 @@
 /* Ferrunchju: a rectangle allocator in which every call is proved to do what its paper says (docs/01-scope.md), on any tables that
- * arrive. This header declares the calls of libferrunchju.a, which `rt staticlib ferrunchju` writes for x86-64.
+ * arrive. This header declares the calls of libferrunchju.a, which `rt lib` in crates/ferrunchju writes for x86-64.
  *
  * A sheet is kept in five tables and a head, all of which the caller owns and lends to each call. With N slots, 1 to 4,096:
  *

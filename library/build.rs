@@ -1,4 +1,4 @@
-//! Links libferrunchju.a, the proved calls: from the folder that FERRUNCHJU_LIB names, or from the repository's target/staticlib.
+//! Links libferrunchju.a, the proved calls: from the folder that FERRUNCHJU_LIB names, or from crates/ferrunchju/out, where `rt lib` writes it.
 
 use std::path::PathBuf;
 
@@ -12,14 +12,14 @@ fn main() {
         Some(folder) => PathBuf::from(folder),
         None => {
             let here = std::env::var_os("CARGO_MANIFEST_DIR").expect("cargo says where the crate is");
-            PathBuf::from(here).join("../target/staticlib")
+            PathBuf::from(here).join("../crates/ferrunchju/out")
         }
     };
     let archive = folder.join("libferrunchju.a");
     println!("cargo:rerun-if-changed={}", archive.display());
     if !archive.is_file() {
         stop(&format!(
-            "no {}: run `rt staticlib ferrunchju` in the repository, or set FERRUNCHJU_LIB to the folder that has libferrunchju.a",
+            "no {}: run `rt lib` in crates/ferrunchju, or set FERRUNCHJU_LIB to the folder that has libferrunchju.a",
             archive.display()
         ));
     }

@@ -1,7 +1,7 @@
 -- A tree that is freed in part, and merged all over, has room for whatever it had room for.
 -- Assumes nothing.
 use Rattle.std.specs.Prelude.{ℕ, ◌≤◌, ◌<◌, ◌≡◌, refl, Bool, ◌⊎◌}
-use Rattle.std.proofs.Common.{◌∙◌, arith}
+use Rattle.std.proofs.Common.{sym, subst, ◌∙◌, arith}
 use Rattle.std.proofs.Math.Bool.{true, false}
 use Rattle.std.proofs.Math.Logic.{inl, inr, ⊎_elim}
 use Rattle.geometry.specs.Rectangles.{flip, width_of, height_of}
@@ -50,8 +50,8 @@ module _ (w h : ℕ) where
     free_first_room (alloc t q n) f z = z
     free_first_room (free t q n) f z =
         let k : join r q ≡ span o a f.0 c d = rw (e, f.2) (joined o a m f.0 c d) in
-        ⊎_elim (λ x. inl (rw k (longer o a a m f.0 c d w h (omega arith) (omega (arith, f.1)) (rw e at x))))
-        (λ y. ⊎_elim (λ x. inl (rw k (longer o a m f.0 f.0 c d w h (omega arith) (omega arith) (rw f.2 at x)))) (λ x. inr x) y) z
+        ⊎_elim (λ x. inl (subst (λ (y : Rectangle). Takes w h y) (sym k) (longer o a a m f.0 c d w h (omega arith) (omega (arith, f.1)) (rw e at x))))
+        (λ y. ⊎_elim (λ x. inl (subst (λ (y : Rectangle). Takes w h y) (sym k) (longer o a m f.0 f.0 c d w h (omega arith) (omega arith) (rw f.2 at x)))) (λ x. inr x) y) z
     free_first_room (box t q k n) f z = z
 
   -- A CONTAINER in front of a chain: over one Free child it is that child.
