@@ -15,7 +15,7 @@ use Rattle.sound.specs.Sound.{Sound}
 use Rattle.outcomes.specs.Given.{given}
 use Rattle.audit.specs.Answers.{Answers}
 use Rattle.audit.specs.Audited.{Checked}
-use Rattle.audit.specs.AnswerLaws.{answers_done}
+use Rattle.audit.proofs.AnswerLaws.{answers_done}
 use Rattle.grants.specs.Grants.{Grant, refused, granted}
 use Rattle.allocate.specs.Allocate.{no_crop, allocated_for, allocated, leaves, AllocateCall}
 

@@ -15,7 +15,7 @@ use Rattle.steps.specs.State.{State}
 use Rattle.sound.specs.Sound.{Sound}
 use Rattle.lent.specs.Lent.{LentOf}
 use Rattle.outcomes.specs.Given.{Given, given}
-use Rattle.audit.specs.AnswerLaws.{answers_once, answers_cases, answers_1, answers_2, answers_other, on_sound}
+use Rattle.audit.proofs.AnswerLaws.{answers_once, answers_cases, answers_1, answers_2, answers_other, on_sound}
 use Rattle.grants.specs.Grants.{Grant, grant, refused, taken, granted}
 use Rattle.granted.specs.Cases.{grant_cases}
 use Rattle.granted.specs.Terms.{Roomy, Chooses, TooFew, Enough, Refuses, GivesOut}

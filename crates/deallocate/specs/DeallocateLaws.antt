@@ -9,9 +9,9 @@ use Rattle.steps.specs.State.{State}
 use Rattle.sound.specs.LiveTickets.{LiveTicket}
 use Rattle.outcomes.specs.Given.{nothing, given}
 use Rattle.audit.specs.Audited.{Checked}
-use Rattle.audit.specs.AnswerLaws.{leaves_done}
+use Rattle.audit.proofs.AnswerLaws.{leaves_done}
 use Rattle.live.specs.Live.{ticket_answer}
-use Rattle.live.specs.TicketLaws.{ticket_cases}
+use Rattle.live.proofs.TicketLaws.{ticket_cases}
 use Rattle.frees.specs.Frees.{released}
 use Rattle.freed.specs.Many.{alloc_seen}
 use Rattle.releasing.specs.Releasable.{Releasable}

@@ -15,7 +15,7 @@ use Rattle.sound.specs.LiveTickets.{LiveTicket}
 use Rattle.lent.specs.Lent.{LentOf}
 use Rattle.outcomes.specs.Given.{Given, nothing, given}
 use Rattle.audit.specs.Answers.{after_check}
-use Rattle.audit.specs.AnswerLaws.{answers_once, own_answer, refused_changes_nothing, done_leaves, stays_sound}
+use Rattle.audit.proofs.AnswerLaws.{answers_once, own_answer, refused_changes_nothing, done_leaves, stays_sound}
 use Rattle.live.specs.Live.{ticket_answer}
 use Rattle.lookup.specs.Lookup.{lookup, IndexCall}
 use Rattle.lookup.specs.LookupWhen.{index_gives_1, index_gives_2, index_gives_8, index_gives_9, index_gives_10, index_gives_0}

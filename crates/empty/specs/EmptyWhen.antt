@@ -8,7 +8,7 @@ use Rattle.steps.specs.State.{State}
 use Rattle.sound.specs.Sound.{Sound}
 use Rattle.lent.specs.Lent.{LentOf}
 use Rattle.outcomes.specs.Given.{Given, given}
-use Rattle.audit.specs.AnswerLaws.{answers_cases, answers_1, answers_2, answers_other, answers_refused}
+use Rattle.audit.proofs.AnswerLaws.{answers_cases, answers_1, answers_2, answers_other, answers_refused}
 use Rattle.empty.specs.Empty.{WholeFree, OnlyFree, EmptyCall}
 use Rattle.empty.specs.EmptyLaws.{whole_free_at_root, whole_free_only}
 

@@ -18,7 +18,7 @@ use Rattle.sound.specs.Sound.{Sound}
 use Rattle.lent.specs.Lent.{lent, LentOf}
 use Rattle.outcomes.specs.Given.{Given}
 use Rattle.audit.specs.Answers.{Answers}
-use Rattle.audit.specs.AnswerLaws.{answers_cases}
+use Rattle.audit.proofs.AnswerLaws.{answers_cases}
 use Rattle.sheets.specs.Sheets.{no_entries, state_with, started}
 use Rattle.starts.specs.Starts.{start_answer, start_call, clear_call}
 use Rattle.heads.specs.Words.{with_changes, ShortLists}

@@ -13,7 +13,7 @@ use Rattle.sound.specs.Sound.{Sound}
 use Rattle.lent.specs.Lent.{LentOf}
 use Rattle.cover.specs.Sums.{LeafAt, rect_at, InRect}
 use Rattle.outcomes.specs.Given.{Given, nothing, given}
-use Rattle.audit.specs.AnswerLaws.{answers_once, answers_1, answers_2, own_answer, answers_told, on_sound, refused_changes_nothing, done_leaves, stays_sound}
+use Rattle.audit.proofs.AnswerLaws.{answers_once, answers_1, answers_2, own_answer, answers_told, on_sound, refused_changes_nothing, done_leaves, stays_sound}
 use Rattle.granted.specs.Terms.{spare_at}
 use Rattle.grows.specs.Grows.{grown, grow_slots}
 use Rattle.grows.specs.Refusals.{grow_answer}

@@ -14,9 +14,9 @@ use Rattle.steps.specs.State.{State}
 use Rattle.sound.specs.Sound.{Sound}
 use Rattle.lent.specs.Lent.{LentOf}
 use Rattle.outcomes.specs.Given.{Given, given}
-use Rattle.audit.specs.AnswerLaws.{answers_1, answers_2, answers_other, answers_sound, answers_refused, on_sound}
+use Rattle.audit.proofs.AnswerLaws.{answers_1, answers_2, answers_other, answers_sound, answers_refused, on_sound}
 use Rattle.lookup.specs.Lookup.{lookup, IndexCall}
-use Rattle.live.specs.TicketLaws.{ticket_cases}
+use Rattle.live.proofs.TicketLaws.{ticket_cases}
 
 module _ (s : State) (t : AllocId) where
   by_ticket : (P : Given Rectangle → Type 0) → (s.head.count ≤ (slot_of t).0 → P (given 8 no_rect s))

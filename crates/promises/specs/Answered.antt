@@ -20,9 +20,9 @@ use Rattle.lent.specs.Lent.{lent}
 use Rattle.starts.specs.Starts.{start_answer, start_call, clear_call}
 use Rattle.outcomes.specs.Given.{Given, nothing, given}
 use Rattle.audit.specs.Answers.{after_check, Answers}
-use Rattle.audit.specs.AnswerLaws.{answers_cases, own_answer}
+use Rattle.audit.proofs.AnswerLaws.{answers_cases, own_answer}
 use Rattle.live.specs.Live.{ticket_answer}
-use Rattle.live.specs.TicketLaws.{ticket_cases}
+use Rattle.live.proofs.TicketLaws.{ticket_cases}
 use Rattle.listings.specs.Listings.{entries, list_answer}
 use Rattle.grants.specs.Grants.{taken, granted}
 use Rattle.granted.specs.Cases.{grant_cases}

@@ -15,7 +15,7 @@ use Rattle.geometry.specs.declared.Size.{Size}
 use Rattle.starts.specs.Starts.{start_call, clear_call}
 use Rattle.starts.specs.StartWhen.{start_refusal_changes_nothing}
 use Rattle.outcomes.specs.Given.{Given}
-use Rattle.audit.specs.AnswerLaws.{answers_once}
+use Rattle.audit.proofs.AnswerLaws.{answers_once}
 use Rattle.lookup.specs.Lookup.{IndexCall}
 use Rattle.lookup.specs.LookupWhen.{index_refused}
 use Rattle.listings.specs.Listings.{Filled, filled}

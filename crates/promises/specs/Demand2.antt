@@ -16,7 +16,7 @@ use Rattle.lent.specs.Lent.{LentOf}
 use Rattle.starts.specs.Starts.{start_call, clear_call}
 use Rattle.starts.specs.StartWhen.{start_gives_1, start_gives_3, start_gives_0}
 use Rattle.outcomes.specs.Given.{Given}
-use Rattle.audit.specs.AnswerLaws.{answers_sound}
+use Rattle.audit.proofs.AnswerLaws.{answers_sound}
 use Rattle.lookup.specs.Lookup.{lookup, IndexCall}
 use Rattle.lookup.specs.LookupWhen.{index_gives_1, index_gives_2, index_gives_8, index_gives_9, index_gives_10, index_gives_0}
 use Rattle.listings.specs.Listings.{Filled}

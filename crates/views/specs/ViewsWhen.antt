@@ -21,7 +21,7 @@ use Rattle.steps.specs.State.{State}
 use Rattle.sound.specs.Sound.{Sound}
 use Rattle.lent.specs.Lent.{LentOf}
 use Rattle.outcomes.specs.Given.{Given, given}
-use Rattle.audit.specs.AnswerLaws.{answers_1, answers_2, answers_other, answers_sound, answers_refused, on_sound}
+use Rattle.audit.proofs.AnswerLaws.{answers_1, answers_2, answers_other, answers_sound, answers_refused, on_sound}
 use Rattle.listings.specs.Listings.{entries, Filled, filled, written_over, list_answer, list_filled}
 use Rattle.views.specs.Views.{listing, ListCall}
 

@@ -1,7 +1,7 @@
 -- `allocate::allocate` meets its contract: the check's answer, or the request's, or what the call does on sound tables.
 -- Assumes nothing.
 use mathlib.Core.Path.{refl}
-use Rattle.audit.specs.AnswerLaws.{answers_checked}
+use Rattle.audit.proofs.AnswerLaws.{answers_checked}
 use Rattle.allocate.specs.AllocateLaws.{sound_setup, leaves_4, leaves_5, leaves_rest}
 use borrow.Author.Rules.{rules}
 use Rattle.allocate.proofs.allocate.Statement.{statement}

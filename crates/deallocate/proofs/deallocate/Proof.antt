@@ -3,7 +3,7 @@
 use mathlib.Core.Path.{refl}
 use native.Mathlib.Omega.{arith}
 use Rattle.steps.specs.State.{state}
-use Rattle.audit.specs.AnswerLaws.{answers_checked, leaves_refused}
+use Rattle.audit.proofs.AnswerLaws.{answers_checked, leaves_refused}
 use Rattle.lookup.specs.HeldLaws.{checked_held}
 use Rattle.deallocate.specs.DeallocateLaws.{live_releasable, leaves_freed}
 use borrow.Author.Rules.{rules}

@@ -1,6 +1,6 @@
 use mathlib.Core.Path.{refl}
 use Rattle.steps.specs.State.{state}
-use Rattle.audit.specs.AnswerLaws.{answers_checked, answers_core}
+use Rattle.audit.proofs.AnswerLaws.{answers_checked, answers_core}
 use Rattle.lookup.specs.HeldLaws.{checked_root}
 use borrow.Author.Rules.{rules}
 use Rattle.empty.proofs.is_empty.Statement.{statement}

@@ -2,7 +2,7 @@
 -- Assumes nothing.
 use mathlib.Core.Path.{refl}
 use native.Mathlib.Omega.{arith}
-use Rattle.audit.specs.AnswerLaws.{answers_checked, leaves_refused, leaves_done}
+use Rattle.audit.proofs.AnswerLaws.{answers_checked, leaves_refused, leaves_done}
 use Rattle.grow.specs.GrowLaws.{checked_growable, checked_due}
 use borrow.Author.Rules.{rules}
 use Rattle.grow.proofs.grow.Statement.{statement}

@@ -6,7 +6,7 @@ use Rattle.lists.specs.Lists.{bag}
 use Rattle.listings.specs.Listings.{entries}
 use Rattle.written.specs.Fills.{wrote}
 use Rattle.written.specs.WriteLaws.{wrote_nothing}
-use Rattle.listings.specs.ListingLaws.{filled_more, has_room_lem, filled_all}
+use Rattle.listings.proofs.ListingLaws.{filled_more, has_room_lem, filled_all}
 use Rattle.listings.proofs.fill.Goals as goal
 
 pub loop-i-init : goal.loop-i-init

@@ -1,6 +1,6 @@
 use native.Mathlib.Omega.{arith}
 use native.Mathlib.Nat.{mul-le-mul}
-use Rattle.listings.specs.ListingLaws.{listing_short, listing_room, listing_done}
+use Rattle.listings.proofs.ListingLaws.{listing_short, listing_room, listing_done}
 use borrow.Author.Rules.{rules}
 use Rattle.listings.proofs.list_slots.Goals as goal
 

@@ -1,6 +1,6 @@
 use mathlib.Core.Path.{sym, ◌∙◌}
 use native.Mathlib.Omega.{arith}
-use Rattle.live.specs.TicketLaws.{live_below, rect_none, rect_live}
+use Rattle.live.proofs.TicketLaws.{live_below, rect_none, rect_live}
 use borrow.Author.Rules.{rules}
 use Rattle.live.proofs.look_up.Goals as goal
 

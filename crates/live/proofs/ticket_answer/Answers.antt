@@ -1,6 +1,6 @@
 use mathlib.Core.Bool.{not}
 use mathlib.Core.Path.{ap}
-use Rattle.live.specs.TicketLaws.{ticket_out, ticket_old, ticket_other, ticket_live}
+use Rattle.live.proofs.TicketLaws.{ticket_out, ticket_old, ticket_other, ticket_live}
 use borrow.Author.Rules.{rules}
 use Rattle.live.proofs.ticket_answer.Goals as goal
 

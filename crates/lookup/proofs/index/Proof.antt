@@ -1,5 +1,5 @@
 use Rattle.steps.specs.State.{state}
-use Rattle.audit.specs.AnswerLaws.{answers_checked, answers_core}
+use Rattle.audit.proofs.AnswerLaws.{answers_checked, answers_core}
 use Rattle.lookup.specs.HeldLaws.{checked_held}
 use borrow.Author.Rules.{rules}
 use Rattle.lookup.proofs.index.Statement.{statement}

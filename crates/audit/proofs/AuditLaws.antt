@@ -24,7 +24,7 @@ use Rattle.counted.specs.Numbers.{numbers_of, entries_found}
 use Rattle.walked.specs.Trees.{firsts_of, TreeReady}
 use Rattle.judged.specs.Judged as judged
 use Rattle.judged.specs.Judged.{AllMarked, Judged}
-use Rattle.audit.specs.EntryLaws.{marks_say_entries, entries_say_listed}
+use Rattle.audit.proofs.EntryLaws.{marks_say_entries, entries_say_listed}
 use Rattle.counted.specs.CountLaws.{entries_cases, counted_numbers, numbers_counted, numbers_table}
 use Rattle.judged.specs.declared.Verdict.{Verdict}
 

@@ -9,7 +9,7 @@ use Rattle.steps.specs.State.{State}
 use Rattle.sound.specs.Sound.{Sound}
 use Rattle.lent.specs.Lent.{LentOf}
 use Rattle.audit.specs.Audited.{Checked}
-use Rattle.audit.specs.Exact.{check_is_exact}
+use Rattle.audit.proofs.Exact.{check_is_exact}
 use Rattle.outcomes.specs.Given.{Given, nothing, given}
 use Rattle.audit.specs.Answers.{after_check, Answers}
 

@@ -1,0 +1,4 @@
+pub mod AnswerLaws
+pub mod AuditLaws
+pub mod EntryLaws
+pub mod Exact
