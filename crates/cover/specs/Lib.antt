@@ -1,4 +1,1 @@
 pub mod Sums
-pub mod SumLaws
-pub mod Leaves
-pub mod Covered

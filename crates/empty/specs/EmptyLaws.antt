@@ -21,7 +21,7 @@ use Rattle.links.specs.TestLaws.{Says, says_as}
 use Rattle.lone.specs.Lone.{lone_free}
 use Rattle.lone.specs.LoneLaws.{lone_says, lone_rect}
 use Rattle.cover.specs.Sums.{rect_at}
-use Rattle.cover.specs.Covered.{leaves_apart, ticket_on_sheet}
+use Rattle.cover.proofs.Covered.{leaves_apart, ticket_on_sheet}
 use Rattle.empty.specs.Empty.{WholeFree, OnlyFree}
 
 -- Kinds that differ.

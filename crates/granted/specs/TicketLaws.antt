@@ -24,7 +24,7 @@ use Rattle.steps.specs.State.{State}
 use Rattle.sound.specs.View.{Seen, seen, in_use}
 use Rattle.sound.specs.Sound.{Sound}
 use Rattle.forest.specs.Pigeon.{In, In-dec}
-use Rattle.cover.specs.Covered.{leaves_apart}
+use Rattle.cover.proofs.Covered.{leaves_apart}
 use Rattle.cover.specs.Sums.{rect_at, InRect}
 use Rattle.grants.specs.Grants.{Grant}
 use Rattle.granted.specs.Carved.{Piece, Became, request, box, free}

@@ -11,7 +11,7 @@ use Rattle.steps.specs.State.{State}
 use Rattle.sound.specs.View.{seen, in_use}
 use Rattle.sound.specs.Sound.{Sound, sheet_of}
 use Rattle.lent.specs.Lent.{LentOf}
-use Rattle.cover.specs.Covered.{point_has_one_slot}
+use Rattle.cover.proofs.Points.{point_has_one_slot}
 use Rattle.cover.specs.Sums.{LeafAt, rect_at, InRect}
 use Rattle.granted.specs.Terms.{Roomy}
 use Rattle.grows.specs.Grows.{grown}

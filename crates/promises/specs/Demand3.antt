@@ -21,7 +21,8 @@ use Rattle.steps.specs.declared.Head.{Head}
 use Rattle.sound.specs.Sound.{Sound}
 use Rattle.sound.specs.LiveTickets.{LiveTicket}
 use Rattle.lent.specs.Lent.{LentOf}
-use Rattle.cover.specs.Covered.{sheet_area, leaves_apart, point_has_one_slot}
+use Rattle.cover.proofs.Covered.{sheet_area, leaves_apart}
+use Rattle.cover.proofs.Points.{point_has_one_slot}
 use Rattle.cover.specs.Sums.{alloc_measure, free_measure, sum_slots, LeafAt, rect_at, InRect}
 use Rattle.starts.specs.Starts.{clear_call}
 use Rattle.starts.specs.StartSound.{start_leaves_sound, start_keeps_lent, clear_leaves_sound}

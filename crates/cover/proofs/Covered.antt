@@ -19,8 +19,8 @@ use Rattle.forest.specs.Back.{in_live}
 use Rattle.forest.specs.Place.{PlaceF, table_place}
 use Rattle.forest.specs.Fill.{place_measured, leaf_not_empty}
 use Rattle.cover.specs.Sums.{alloc_measure, free_measure, leaf_measure, sum_slots, LeafAt, rect_at, InRect}
-use Rattle.cover.specs.SumLaws.{sum_both, sum_some, one_part, two_parts, sum_list}
-use Rattle.cover.specs.Leaves.{leaf_either, leaf_in_use, leaf_live, leaf_adds, adds_leaf, slots_total, covers_most, covers_in}
+use Rattle.cover.proofs.SumLaws.{sum_both, sum_some, one_part, two_parts, sum_list}
+use Rattle.cover.proofs.Leaves.{leaf_either, leaf_in_use, leaf_live, leaf_adds, adds_leaf, slots_total, covers_most, covers_in}
 
 module _ {s : State} (sound : Sound s) where
   -- The slots, their count, the sheet and the root, as the rules have them.
@@ -91,19 +91,6 @@ module _ {s : State} (sound : Sound s) where
         sheet_covered_once x y,
         covers_most x y sheet,
       )
-
-  -- ONE SLOT. Each point of the sheet lies in the rectangle of an Alloc or Free slot, and of no other one.
-  pub point_has_one_slot : (x y : ℕ) → x < natural s.head.sheet.width → y < natural s.head.sheet.height
-      → (i : ℕ) × LeafAt s i × InRect x y (rect_at s i) × ((j : ℕ) → LeafAt s j → InRect x y (rect_at s j) → j ≡ i)
-  point_has_one_slot x y h k =
-      let w = sum_some (λ i. leaf_measure (covers x y) (get i)) n (omega (arith, point_covered_once x y h k)) in
-      let leaf = adds_leaf (covers x y) (get w.0) w.2 in
-      let at = covers_in x y (rect_at s w.0) (omega (arith, leaf_adds (covers x y) (get w.0) leaf)) in
-      (w.0, (w.1, leaf), at, λ j l m. same j w.0 l (w.1, leaf) m at (ℕ_discrete j w.0))
-    where
-      same : (i j : ℕ) → LeafAt s i → LeafAt s j → InRect x y (rect_at s i) → InRect x y (rect_at s j) → Dec (i ≡ j) → i ≡ j
-      same i j li lj hi hj (yes e) = e
-      same i j li lj hi hj (no e) = absurd (leaves_apart i j li lj e x y hi hj)
 
   -- ON THE SHEET. The rectangle of an Alloc or Free slot is not empty and lies on the sheet.
   pub ticket_on_sheet : (i : ℕ) → LeafAt s i

@@ -18,7 +18,7 @@ use Rattle.sound.specs.Rules.{Leaf}
 use Rattle.forest.specs.Forest.{Forest, empty, slot, slots, Shape, Rep}
 use Rattle.forest.specs.Tree.{Tree, before, tree_of, total}
 use Rattle.cover.specs.Sums.{is_leaf, alloc_measure, free_measure, leaf_measure, InRect}
-use Rattle.cover.specs.SumLaws.{sum_over, over_append}
+use Rattle.cover.proofs.SumLaws.{sum_over, over_append}
 
 -- An Alloc or Free slot is one of the two.
 pub leaf_either : (μ : Rectangle → ℕ) (m : Seen) → leaf_measure μ m ≡ alloc_measure μ m + free_measure μ m

@@ -1,0 +1,4 @@
+pub mod Leaves
+pub mod SumLaws
+pub mod Covered
+pub mod Points
