@@ -13,7 +13,7 @@ use Rattle.audit.proofs.AnswerLaws.{leaves_done}
 use Rattle.live.specs.Live.{ticket_answer}
 use Rattle.live.proofs.TicketLaws.{ticket_cases}
 use Rattle.frees.specs.Frees.{released}
-use Rattle.freed.specs.Many.{alloc_seen}
+use Rattle.freed.proofs.Many.{alloc_seen}
 use Rattle.releasing.specs.Releasable.{Releasable}
 use Rattle.deallocate.specs.Deallocate.{DeallocateCall}
 

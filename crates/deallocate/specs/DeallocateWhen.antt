@@ -21,7 +21,7 @@ use Rattle.lookup.specs.Lookup.{lookup, IndexCall}
 use Rattle.lookup.specs.LookupWhen.{index_gives_1, index_gives_2, index_gives_8, index_gives_9, index_gives_10, index_gives_0}
 use Rattle.frees.specs.Frees.{released}
 use Rattle.freed.specs.Terms.{FreesOne, Among, Tickets, released_each, SameSlots, OneFree}
-use Rattle.freed.specs.Promises.{release_keeps_sound, release_frees_one, order_is_free, all_freed_leaves_one}
+use Rattle.freed.proofs.Promises.{release_keeps_sound, release_frees_one, order_is_free, all_freed_leaves_one}
 use Rattle.deallocate.specs.Deallocate.{deallocated, DeallocateCall}
 use Rattle.deallocate.specs.DeallocateLaws.{answered_live}
 

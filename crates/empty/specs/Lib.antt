@@ -1,3 +1,1 @@
 pub mod Empty
-pub mod EmptyLaws
-pub mod EmptyWhen

@@ -6,9 +6,4 @@ pub mod Steps
 pub mod Climbing
 pub mod TidyLaws
 pub mod Terms
-pub mod Released
 pub mod Contents
-pub mod Lone
-pub mod Many
-pub mod Orders
-pub mod Promises

@@ -13,6 +13,3 @@ pub mod SoundFacts
 pub mod Outcomes
 pub mod Given
 pub mod Terms
-pub mod TicketLaws
-pub mod Cases
-pub mod Promises

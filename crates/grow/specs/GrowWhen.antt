@@ -17,7 +17,7 @@ use Rattle.audit.proofs.AnswerLaws.{answers_once, answers_1, answers_2, own_answ
 use Rattle.granted.specs.Terms.{spare_at}
 use Rattle.grows.specs.Grows.{grown, grow_slots}
 use Rattle.grows.specs.Refusals.{grow_answer}
-use Rattle.grown.specs.Promises.{grown_keeps_sound, grown_keeps_tickets, grown_covers_once}
+use Rattle.grown.proofs.Promises.{grown_keeps_sound, grown_keeps_tickets, grown_covers_once}
 use Rattle.grown.specs.Terms.{GrowDue, Grows}
 use Rattle.grow.specs.Grow.{grown_to, GrowCall, Smaller}
 use Rattle.grow.specs.GrowLaws.{grow_cases, due_large, answered_due}

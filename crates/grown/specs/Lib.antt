@@ -3,12 +3,6 @@ pub mod Changed
 pub mod Chains
 pub mod Reparents
 pub mod Restock
-pub mod Stretching
-pub mod Appending
-pub mod Crossing
 pub mod Growths
 pub mod Filled
-pub mod Both
 pub mod Terms
-pub mod Whole
-pub mod Promises

@@ -25,7 +25,7 @@ use Rattle.live.specs.Live.{ticket_answer}
 use Rattle.live.proofs.TicketLaws.{ticket_cases}
 use Rattle.listings.specs.Listings.{entries, list_answer}
 use Rattle.grants.specs.Grants.{taken, granted}
-use Rattle.granted.specs.Cases.{grant_cases}
+use Rattle.granted.proofs.Cases.{grant_cases}
 use Rattle.allocate.specs.Allocate.{allocated_for, allocated}
 use Rattle.frees.specs.Frees.{released}
 use Rattle.deallocate.specs.Deallocate.{deallocated}

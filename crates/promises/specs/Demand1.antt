@@ -22,7 +22,7 @@ use Rattle.listings.specs.Listings.{Filled, filled}
 use Rattle.views.specs.Views.{ListCall}
 use Rattle.views.specs.ViewsWhen.{listing_refused}
 use Rattle.empty.specs.Empty.{EmptyCall}
-use Rattle.empty.specs.EmptyWhen.{empty_refused}
+use Rattle.empty.proofs.EmptyWhen.{empty_refused}
 use Rattle.allocate.specs.Allocate.{Crop, no_crop, AllocateCall}
 use Rattle.allocate.specs.AllocateWhen.{Taken, as_grant, allocate_refusal_changes_nothing, allocate_refusal_changes_lists_alone}
 use Rattle.grants.specs.Grants.{no_ticket}

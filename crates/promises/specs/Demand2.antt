@@ -23,7 +23,7 @@ use Rattle.listings.specs.Listings.{Filled}
 use Rattle.views.specs.Views.{listing, ListCall}
 use Rattle.views.specs.ViewsWhen.{listing_gives_1, listing_gives_2, listing_gives_12, listing_gives_0}
 use Rattle.empty.specs.Empty.{WholeFree, EmptyCall}
-use Rattle.empty.specs.EmptyWhen.{empty_gives_1, empty_gives_2, empty_gives_0, empty_gives_yes}
+use Rattle.empty.proofs.EmptyWhen.{empty_gives_1, empty_gives_2, empty_gives_0, empty_gives_yes}
 use Rattle.allocate.specs.Allocate.{Crop, allocated, leaves, AllocateCall}
 use Rattle.allocate.specs.AllocateWhen.{allocate_gives_1, allocate_gives_2, allocate_gives_4, allocate_gives_5, allocate_gives_6, allocate_gives_7, allocate_gives_0}
 use Rattle.deallocate.specs.Deallocate.{deallocated, DeallocateCall}

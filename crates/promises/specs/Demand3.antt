@@ -26,7 +26,7 @@ use Rattle.cover.proofs.Points.{point_has_one_slot}
 use Rattle.cover.specs.Sums.{alloc_measure, free_measure, sum_slots, LeafAt, rect_at, InRect}
 use Rattle.starts.specs.Starts.{clear_call}
 use Rattle.starts.specs.StartSound.{start_leaves_sound, start_keeps_lent, clear_leaves_sound}
-use Rattle.empty.specs.EmptyWhen.{empty_changes_nothing}
+use Rattle.empty.proofs.EmptyWhen.{empty_changes_nothing}
 use Rattle.outcomes.specs.Given.{Given}
 use Rattle.grants.specs.Grants.{Grant}
 use Rattle.granted.specs.Terms.{Roomy, Refuses, GivesOut}

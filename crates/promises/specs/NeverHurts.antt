@@ -12,8 +12,8 @@ use Rattle.steps.specs.State.{State}
 use Rattle.lent.specs.Lent.{LentOf}
 use Rattle.sound.specs.Sound.{Sound}
 use Rattle.granted.specs.Terms.{Roomy}
-use Rattle.rooms.specs.Roomy.{release_roomy}
-use Rattle.grown.specs.Promises.{grown_roomy}
+use Rattle.rooms.proofs.Roomy.{release_roomy}
+use Rattle.grown.proofs.Promises.{grown_roomy}
 use Rattle.allocate.specs.AllocateWhen.{asks, TooLargeSide, allocate_gives_4, allocate_gives_5, allocate_gives_6}
 use Rattle.deallocate.specs.DeallocateWhen.{deallocate_gives_0, deallocate_frees, deallocate_frees_one}
 use Rattle.grow.specs.GrowWhen.{grow_gives_0, grow_grows, grow_keeps_tickets}

@@ -27,7 +27,7 @@ use Rattle.frees.specs.Climbs.{Level, level, climbed}
 use Rattle.frees.specs.Frees.{climb_of, released}
 use Rattle.freed.specs.Folds.{freeing}
 use Rattle.freed.specs.Climbing.{Ended}
-use Rattle.freed.specs.Released.{start_reached, ended}
+use Rattle.freed.proofs.Released.{start_reached, ended}
 use Rattle.climbs.specs.Climbable.{Climbing}
 use Rattle.releasing.specs.Releasable.{Releasable}
 

@@ -20,8 +20,8 @@ use Rattle.grows.specs.Grows.{with_sheet, stretched, grown_both, grown, grow_slo
 use Rattle.grown.specs.Fills.{Fills, Carries, Lone}
 use Rattle.grown.specs.Filled.{whole_some}
 use Rattle.grown.specs.Growths.{larger_some}
-use Rattle.grown.specs.Stretching.{lone_steps}
-use Rattle.grown.specs.Both.{needs_along, needs_across, both_steps}
+use Rattle.grown.proofs.Stretching.{lone_steps}
+use Rattle.grown.proofs.Both.{needs_along, needs_across, both_steps}
 use Rattle.grown.specs.Terms.{GrowDue}
 
 module _ (s : State) (new : Size) (L : LentOf s) (S : Sound s) (G : GrowDue s new) where

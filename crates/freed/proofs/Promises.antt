@@ -12,10 +12,10 @@ use Rattle.lent.specs.Lent.{LentOf}
 use Rattle.frees.specs.Frees.{released}
 use Rattle.sound.specs.LiveTickets.{LiveTicket}
 use Rattle.freed.specs.Terms.{FreesOne, Among, Tickets, released_each, SameSlots, OneFree}
-use Rattle.freed.specs.Released.{Frees, release_frees}
-use Rattle.freed.specs.Many.{FreesEach, one_ticket, ticket_at, ticket_at_lem, alloc_seen, others_live, live_other, each_frees}
-use Rattle.freed.specs.Lone.{quiet_one_free}
-use Rattle.freed.specs.Orders.{any_order}
+use Rattle.freed.proofs.Released.{Frees, release_frees}
+use Rattle.freed.proofs.Many.{FreesEach, one_ticket, ticket_at, ticket_at_lem, alloc_seen, others_live, live_other, each_frees}
+use Rattle.freed.proofs.Lone.{quiet_one_free}
+use Rattle.freed.proofs.Orders.{any_order}
 
 module _ (s : State) (L : LentOf s) (S : Sound s) where
   grown : (F : Forest) × Represents (seen s.words) s.head.count s.head.root.0 F

@@ -29,7 +29,7 @@ use Rattle.granted.specs.Stocked.{Stocked, sound_stocked, search_stocks}
 use Rattle.granted.specs.Outcomes.{outcome_lent, refusal_sound}
 use Rattle.granted.specs.Given.{Given, cut_given}
 use Rattle.granted.specs.Terms.{Roomy, ChoosesAt, cut_at, shape_at, needed_at, spare_at, Refuses, GivesOut}
-use Rattle.granted.specs.TicketLaws.{gives_out}
+use Rattle.granted.proofs.TicketLaws.{gives_out}
 
 -- What the search answers, and the lists as it left them.
 abbrev pub search_of : State → Extent → Searched

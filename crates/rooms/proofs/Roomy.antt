@@ -25,8 +25,8 @@ use Rattle.forest.specs.Tree.{Tree, before, tree_of}
 use Rattle.granted.specs.Terms.{Roomy}
 use Rattle.frees.specs.Frees.{released}
 use Rattle.freed.specs.Folds.{freeing}
-use Rattle.freed.specs.Many.{alloc_seen}
-use Rattle.freed.specs.Released.{release_frees}
+use Rattle.freed.proofs.Many.{alloc_seen}
+use Rattle.freed.proofs.Released.{release_frees}
 use Rattle.rooms.specs.Rooms.{Takes, Room, freeing_room}
 
 module _ (w h : ℕ) where

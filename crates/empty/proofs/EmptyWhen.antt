@@ -10,7 +10,7 @@ use Rattle.lent.specs.Lent.{LentOf}
 use Rattle.outcomes.specs.Given.{Given, given}
 use Rattle.audit.proofs.AnswerLaws.{answers_cases, answers_1, answers_2, answers_other, answers_refused}
 use Rattle.empty.specs.Empty.{WholeFree, OnlyFree, EmptyCall}
-use Rattle.empty.specs.EmptyLaws.{whole_free_at_root, whole_free_only}
+use Rattle.empty.proofs.EmptyLaws.{whole_free_at_root, whole_free_only}
 
 module _ {s : State} {o : Given Bool} (call : EmptyCall s o) where
   -- 1: a table length is outside its range.

@@ -14,7 +14,7 @@ use Rattle.forest.specs.Tree.{tree_of}
 use Rattle.freed.specs.Terms.{SameFrame, Among, SameSlots}
 use Rattle.freed.specs.Folds.{freeing}
 use Rattle.freed.specs.Contents.{forest_of, forest_tree, same_contents}
-use Rattle.freed.specs.Many.{names, FreesEach}
+use Rattle.freed.proofs.Many.{names, FreesEach}
 
 -- THE NAMES. A slot is named where it is that of a ticket among the list.
 among_names : (ts : List AllocId) (t : AllocId) → Among t ts → names ts (slot_of t).0 ≡ true

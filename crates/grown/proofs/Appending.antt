@@ -32,7 +32,8 @@ use Rattle.grants.specs.Grants.{with_lists}
 use Rattle.entries.specs.Entries.{entered}
 use Rattle.grows.specs.Grows.{with_root, appended_to, tail_node}
 use Rattle.grown.specs.Fills.{Fills, Carries, Lone, Roots}
-use Rattle.grown.specs.Changed.{Change, change_fills, change_carries}
+use Rattle.grown.specs.Changed.{Change}
+use Rattle.grown.proofs.Changed.{change_fills, change_carries}
 use Rattle.grown.specs.Restock.{more_stocks}
 
 -- The table with slot f linked after slot i.

@@ -28,7 +28,8 @@ use Rattle.granted.specs.Writes.{seen_same, seen_other}
 use Rattle.moves.specs.Moves.{moved}
 use Rattle.grows.specs.Grows.{stretched}
 use Rattle.grown.specs.Fills.{Fills, NoSmaller, Carries, Lone, Roots}
-use Rattle.grown.specs.Changed.{not_alloc, Change, change_fills, change_carries}
+use Rattle.grown.specs.Changed.{Change}
+use Rattle.grown.proofs.Changed.{not_alloc, change_fills, change_carries}
 use Rattle.grown.specs.Restock.{forget_stocks}
 
 -- The rectangle of a Free slot stored.

@@ -17,7 +17,7 @@ use Rattle.granted.specs.Terms.{Roomy}
 use Rattle.grows.specs.Grows.{grown}
 use Rattle.grown.specs.Fills.{fills_sound}
 use Rattle.grown.specs.Terms.{GrowDue, Grows}
-use Rattle.grown.specs.Whole.{grown_steps}
+use Rattle.grown.proofs.Whole.{grown_steps}
 
 module _ (s : State) (new : Size) (L : LentOf s) (S : Sound s) (G : GrowDue s new) where
   -- SOUND. After the grow the tables are sound, and their lengths in range.

@@ -35,7 +35,8 @@ use Rattle.grants.specs.Grants.{with_lists}
 use Rattle.entries.specs.Entries.{entered}
 use Rattle.grows.specs.Grows.{with_root, reparented, grown_across}
 use Rattle.grown.specs.Fills.{Fills, Carries, Lone}
-use Rattle.grown.specs.Changed.{Change, change_fills, change_carries}
+use Rattle.grown.specs.Changed.{Change}
+use Rattle.grown.proofs.Changed.{change_fills, change_carries}
 use Rattle.grown.specs.Chains.{top_ends, top_visits, visited_on_top}
 use Rattle.grown.specs.Reparents.{length_reparented, reparented_chain}
 use Rattle.grown.specs.Restock.{more_stocks}

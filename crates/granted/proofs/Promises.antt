@@ -11,7 +11,7 @@ use Rattle.sound.specs.Sound.{Sound}
 use Rattle.lent.specs.Lent.{LentOf}
 use Rattle.grants.specs.Grants.{taken, granted}
 use Rattle.granted.specs.Terms.{Roomy, Chooses, TooFew, Enough, Refuses, GivesOut}
-use Rattle.granted.specs.Cases.{search_of, one_chosen, not_nothing, grant_cases, chosen_picked, nothing_when, refused_sound, refused_lent, refused_refuses, cut_leaves, cut_gives_out}
+use Rattle.granted.proofs.Cases.{search_of, one_chosen, not_nothing, grant_cases, chosen_picked, nothing_when, refused_sound, refused_lent, refused_refuses, cut_leaves, cut_gives_out}
 
 module _ (s : State) (e : Extent) (L : LentOf s) (S : Sound s) (w : 0 < e.width) (h : 0 < e.height) where
   -- SOUND. Whatever the answer, the tables are sound after it, and their lengths in range.

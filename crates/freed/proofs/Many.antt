@@ -20,7 +20,7 @@ use Rattle.sound.specs.LiveTickets.{LiveTicket}
 use Rattle.freed.specs.Terms.{SameFrame, Among, Tickets, released_each}
 use Rattle.freed.specs.Folds.{freeing, freeing_none, fuse}
 use Rattle.freed.specs.TidyLaws.{tree_tidy}
-use Rattle.freed.specs.Released.{Frees, release_frees}
+use Rattle.freed.proofs.Released.{Frees, release_frees}
 
 -- Two live tickets of the same slot are the same.
 pub one_ticket : {s : State} {t u : AllocId} → LiveTicket s t → LiveTicket s u → (slot_of t).0 ≡ (slot_of u).0 → t ≡ u

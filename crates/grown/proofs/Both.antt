@@ -25,9 +25,9 @@ use Rattle.grown.specs.Fills.{Fills, Carries, Lone, Roots, carries_same, carries
 use Rattle.grown.specs.Chains.{OnTop, last_on_top}
 use Rattle.grown.specs.Filled.{whole_some, last_some}
 use Rattle.grown.specs.Growths.{larger_some, appended_adjoins, appended_some, appended_join, whole_stretched, stretched_none, strip_adjoins, strip_joins, strip_some, along_alone}
-use Rattle.grown.specs.Stretching.{last_steps, last_roots}
-use Rattle.grown.specs.Appending.{append_steps}
-use Rattle.grown.specs.Crossing.{cross_steps}
+use Rattle.grown.proofs.Stretching.{last_steps, last_roots}
+use Rattle.grown.proofs.Appending.{append_steps}
+use Rattle.grown.proofs.Crossing.{cross_steps}
 
 -- The root's orientation, and the last slot of the top chain.
 abbrev pub runs_at : State → Orientation

@@ -1,0 +1,3 @@
+pub mod Cases
+pub mod Promises
+pub mod TicketLaws
