@@ -1,4 +1,1 @@
 pub mod Places
-pub mod PlaceLaws
-pub mod WalkLaws
-pub mod RuleLaws

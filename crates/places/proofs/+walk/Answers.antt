@@ -3,7 +3,7 @@
 use mathlib.Core.Path.{refl, sym, ◌∙◌}
 use native.Mathlib.Omega.{arith}
 use borrow.Author.Tests.{not-true, not-false}
-use Rattle.places.specs.WalkLaws as laws
+use Rattle.places.proofs.WalkLaws as laws
 use Rattle.places.proofs.+walk.Goals as goal
 
 pub place_of_chain-loop-at-init : goal.place_of_chain-loop-at-init

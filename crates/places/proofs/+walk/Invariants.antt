@@ -1,7 +1,7 @@
 -- The measure is three times the count, with a step for each of Container, chain and slot, which fall in this order at one count.
 -- The loop's invariant: the members so far are those of the chain. Assumes nothing.
 use Prim.Native.Nat.{◌+◌, ◌*◌}
-use Rattle.places.specs.WalkLaws.{Going}
+use Rattle.places.proofs.WalkLaws.{Going}
 use Rattle.places.proofs.+walk.Given as goal
 
 abbrev pub decreases-place_of_slot : goal.decreases-place_of_slot

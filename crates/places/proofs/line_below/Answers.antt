@@ -1,7 +1,7 @@
 -- `places::line_below` meets its contract: each turn goes from a Container to its only child, a Container too.
 -- Assumes nothing.
 use mathlib.Core.Path.{refl, sym, ◌∙◌}
-use Rattle.places.specs.WalkLaws.{lined_on}
+use Rattle.places.proofs.WalkLaws.{lined_on}
 use Rattle.places.proofs.line_below.Goals as goal
 
 pub loop-rest-preserved : goal.loop-rest-preserved

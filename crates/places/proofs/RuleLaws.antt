@@ -18,7 +18,7 @@ use Rattle.forest.specs.Follows.{size, live, kids_of, next_of, size_slots, linke
 use Rattle.forest.specs.Place.{place_table, table_place, slot_table_place, table_slot_place}
 use Rattle.links.specs.TestLaws.{Says, says_as}
 use Rattle.places.specs.Places.{kids_at, next_at, Standing, StoredAt, AtLast, StoredF, Chained}
-use Rattle.places.specs.PlaceLaws.{standing_ended, fits_placed, fits_stored, placed_fits}
+use Rattle.places.proofs.PlaceLaws.{standing_ended, fits_placed, fits_stored, placed_fits}
 use Rattle.joins.specs.declared.Placed.{Placed}
 
 -- How many slots of the table are live.

@@ -29,7 +29,7 @@ use Rattle.links.specs.TestLaws.{Says, fails, both_say, says_as, less_says, kind
 use Rattle.joins.specs.Joins.{adjoins, out_of_slots, nothing_yet, own_place, stored_as, together, added}
 use Rattle.standing.specs.Standing.{stands_as, is_lone, lone_at, held_by}
 use Rattle.places.specs.Places.{kids_at, next_at, Ready, Held, Fitting, Standing, StoredAt, AtLast, StoredF, Chained, Contained, Slotted, Lined}
-use Rattle.places.specs.PlaceLaws.{clash, adjoins_true, true_adjoins, follows_one, slot_one, place_one, own_fits, last_fits, chain_fits, same_rect_says}
+use Rattle.places.proofs.PlaceLaws.{clash, adjoins_true, true_adjoins, follows_one, slot_one, place_one, own_fits, last_fits, chain_fits, same_rect_says}
 use Rattle.joins.specs.declared.Placed.{Placed}
 
 -- The contents m of slot i, as the code read them.
