@@ -31,7 +31,7 @@ fn damaged_tables() {
 /// Every table of docs/MODEL.md's list, with every call.
 #[test]
 fn stored_tables() {
-    let stored = concat!(env!("CARGO_MANIFEST_DIR"), "/../crates/programs_damaged/stdin");
+    let stored = concat!(env!("CARGO_MANIFEST_DIR"), "/../crates/damaged/stdin");
     let (mut answers, mut stream) = (Answers::default(), Stream::new(11));
     let mut trail = Trail::new("the stored list of damaged tables", 11);
     read(&fs::read_to_string(stored).expect("the list"), |tables, _| {

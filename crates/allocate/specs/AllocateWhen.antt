@@ -17,9 +17,9 @@ use Rattle.lent.specs.Lent.{LentOf}
 use Rattle.outcomes.specs.Given.{Given, given}
 use Rattle.audit.proofs.AnswerLaws.{answers_once, answers_cases, answers_1, answers_2, answers_other, on_sound}
 use Rattle.grants.specs.Grants.{Grant, grant, refused, taken, granted}
-use Rattle.granted.specs.Cases.{grant_cases}
+use Rattle.granted.proofs.Cases.{grant_cases}
 use Rattle.granted.specs.Terms.{Roomy, Chooses, TooFew, Enough, Refuses, GivesOut}
-use Rattle.granted.specs.Promises.{grant_keeps_sound, grant_gives_6, grant_gives_7, grant_gives_0, refusal_changes_lists_alone, grant_gives_out}
+use Rattle.granted.proofs.Promises.{grant_keeps_sound, grant_gives_6, grant_gives_7, grant_gives_0, refusal_changes_lists_alone, grant_gives_out}
 use Rattle.allocate.specs.Allocate.{Crop, no_crop, allocated_for, allocated, leaves, AllocateCall}
 
 -- The request that allocate takes: a requested size with both sides above 0, rounded up.

@@ -10,7 +10,7 @@ use Rattle.sound.specs.Sound.{sheet_of}
 use Rattle.lent.specs.Lent.{LentOf}
 use Rattle.granted.specs.Terms.{spare_at}
 use Rattle.grows.specs.Grows.{grown_along, grown_across}
-use Rattle.grown.proofs.Both.{needs_along, needs_across}
+use Rattle.grown.specs.Both.{needs_along, needs_across}
 use Rattle.grown.specs.Fills.{Fills, Lone}
 
 -- Along by a length, and across by one, if it is above 0.
