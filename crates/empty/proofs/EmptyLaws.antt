@@ -1,7 +1,7 @@
 -- THE EMPTY SHEET: on sound tables one Free slot is the whole sheet exactly where the root is Free and has no next, and then no other slot is live.
 -- Assumes nothing but that the tables are sound.
 use Rattle.std.specs.Prelude.{◌≡◌, refl, ◌↔◌, ◌⊎◌, [], ◌∷◌, ◌++◌, ℕ, ◌<◌}
-use Rattle.std.proofs.Common.{ap, sym, ◌∙◌, inl, inr, arith}
+use Rattle.std.proofs.Common.{ap, sym, ◌∙◌, inl, inr, arith, subst}
 use Rattle.std.proofs.Math.Decide.{ℕ_discrete}
 use Rattle.geometry.specs.Rectangles.{flip}
 use Rattle.geometry.specs.declared.Orientation.{Orientation}
@@ -51,7 +51,7 @@ module _ (get : ℕ → Seen) (n : ℕ) where
     in_first p v o a C T R =
         let w = first_leaf p v o a C T R in
         let l = in_live get n p v o (forest.slot a C T) R w.0 (forest.in_left (a ∷ slots C) (slots T) w.0 w.1) in
-        rw (only w.0 l w.2) at w.1
+        subst (λ (y : ℕ). In y (a ∷ slots C)) (only w.0 l w.2) w.1
 
     no_rest : (p v : Link) (o : Orientation) (a : ℕ) (C T : Forest) → Rep get n p v o (forest.slot a C T) → Distinct (slots (forest.slot a C T)) → head T ≡ none
     no_rest p v o a C empty R D = refl
@@ -78,6 +78,7 @@ module _ (get : ℕ → Seen) (n : ℕ) where
       where
         lone : (B U : Forest) → Bare B → head U ≡ none → (j : ℕ) → In j (a ∷ slots B ++ slots U) → j ≡ a
         lone empty empty b h j (inl e) = e
+        lone empty empty b h j (inr e) = elim e [ ]
         lone empty (forest.slot x Y Z) b h j m = absurd (no_link (sym h))
         lone (forest.slot x Y Z) U b h j m = absurd b
 
