@@ -14,6 +14,6 @@ returns-then-not-same_kind c = rw (failed c.same_kind.ensures (ap not c.if-not-s
 pub returns : goal.returns
 unfolding child_agrees
 returns c = rw (
-      passed c.same_kind.ensures (ap not c.if-not-same_kind.false),
-      c.is_none.ensures,
-    )
+  passed c.same_kind.ensures (ap not c.if-not-same_kind.false),
+  c.is_none.ensures,
+)

@@ -15,13 +15,13 @@ returns-then-not-is_none c = rw (failed c.is_none.ensures (ap not c.if-not-is_no
 pub returns-then-is_none : goal.returns-then-is_none
 unfolding first_agrees
 returns-then-is_none c = rw (
-      passed c.is_none.ensures (ap not c.if-not-is_none.false),
-      sym c.is_none-2.ensures ∙ c.if-is_none.true,
-    )
+  passed c.is_none.ensures (ap not c.if-not-is_none.false),
+  sym c.is_none-2.ensures ∙ c.if-is_none.true,
+)
 
 pub returns : goal.returns
 unfolding first_agrees
 returns c = rw (
-      passed c.is_none.ensures (ap not c.if-not-is_none.false),
-      sym c.is_none-2.ensures ∙ c.if-is_none.false,
-    )
+  passed c.is_none.ensures (ap not c.if-not-is_none.false),
+  sym c.is_none-2.ensures ∙ c.if-is_none.false,
+)

@@ -15,17 +15,17 @@ returns-then-is_none c = rw (sym c.is_none.ensures ∙ c.if-is_none.true)
 pub returns-then-not-same_kind : goal.returns-then-not-same_kind
 unfolding parent_agrees
 returns-then-not-same_kind c = rw (
-      sym c.is_none.ensures ∙ c.if-is_none.false,
-      ← c.node_at-above.ensures,
-      failed c.same_kind.ensures (ap not c.if-not-same_kind.true),
-    )
+  sym c.is_none.ensures ∙ c.if-is_none.false,
+  ← c.node_at-above.ensures,
+  failed c.same_kind.ensures (ap not c.if-not-same_kind.true),
+)
 
 pub returns : goal.returns
 unfolding parent_agrees
 returns c = rw (
-      sym c.is_none.ensures ∙ c.if-is_none.false,
-      ← c.node_at-above.ensures,
-      passed c.same_kind.ensures (ap not c.if-not-same_kind.false),
-      c.same_orientation.ensures,
-      c.flipped.ensures,
-    )
+  sym c.is_none.ensures ∙ c.if-is_none.false,
+  ← c.node_at-above.ensures,
+  passed c.same_kind.ensures (ap not c.if-not-same_kind.false),
+  c.same_orientation.ensures,
+  c.flipped.ensures,
+)

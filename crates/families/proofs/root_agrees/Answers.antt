@@ -14,13 +14,13 @@ returns-then-not-is_none c = rw (failed c.is_none.ensures (ap not c.if-not-is_no
 pub returns-then-not-is_none-2 : goal.returns-then-not-is_none-2
 unfolding root_agrees
 returns-then-not-is_none-2 c = rw (
-      passed c.is_none.ensures (ap not c.if-not-is_none.false),
-      failed c.is_none-2.ensures (ap not c.if-not-is_none-2.true),
-    )
+  passed c.is_none.ensures (ap not c.if-not-is_none.false),
+  failed c.is_none-2.ensures (ap not c.if-not-is_none-2.true),
+)
 
 pub returns : goal.returns
 unfolding root_agrees
 returns c = rw (
-      passed c.is_none.ensures (ap not c.if-not-is_none.false),
-      passed c.is_none-2.ensures (ap not c.if-not-is_none-2.false),
-    )
+  passed c.is_none.ensures (ap not c.if-not-is_none.false),
+  passed c.is_none-2.ensures (ap not c.if-not-is_none-2.false),
+)
