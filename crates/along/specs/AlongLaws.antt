@@ -22,7 +22,8 @@ use Rattle.granted.specs.SoundFacts.{lent_slots, lists_ready}
 use Rattle.granted.specs.Terms.{spare_at}
 use Rattle.strips.specs.Strips.{stretched_rect, appended_rect}
 use Rattle.grows.specs.Grows.{stretched, appended_to, grown_along}
-use Rattle.grown.proofs.Both.{runs_at, last_at, along_steps}
+use Rattle.grown.specs.Both.{runs_at, last_at}
+use Rattle.grown.proofs.Both.{along_steps}
 use Rattle.grown.specs.Chains.{OnTop, last_on_top}
 use Rattle.grown.specs.Filled.{last_some}
 use Rattle.grown.specs.Growths.{appended_adjoins, appended_some, appended_join}

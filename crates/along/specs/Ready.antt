@@ -8,7 +8,7 @@ use Rattle.steps.specs.State.{State}
 use Rattle.lent.specs.Lent.{LentOf}
 use Rattle.granted.specs.Terms.{spare_at}
 use Rattle.grown.specs.Fills.{Fills, Lone}
-use Rattle.grown.proofs.Both.{last_at}
+use Rattle.grown.specs.Both.{last_at}
 
 -- The tables are sound but for what the top chain fills, the root is no lone Free slot, a slot is spare if one must be appended, and
 -- the corners of the longer whole are in the range of a u32.

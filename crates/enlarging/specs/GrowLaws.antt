@@ -31,10 +31,11 @@ use Rattle.granted.specs.SoundFacts.{lists_ready}
 use Rattle.granted.specs.Terms.{spare_at}
 use Rattle.strips.specs.Strips.{along, stretched_rect, strip_rect}
 use Rattle.grows.specs.Grows.{with_sheet, growth, stretched, grown_along, grown_both, grown, grow_slots}
-use Rattle.grown.specs.Both.{runs_at, last_at, needs_along, needs_across, Reaches, between}
+use Rattle.grown.specs.Both.{runs_at, last_at, needs_along, needs_across, Reaches}
+use Rattle.grown.proofs.Both.{between}
 use Rattle.grown.specs.Fills.{Fills}
 use Rattle.grown.specs.Terms.{GrowDue}
-use Rattle.grown.specs.Whole.{begins}
+use Rattle.grown.proofs.Whole.{begins}
 use Rattle.growing.specs.Ready.{StepReady}
 use Rattle.growing.specs.TopLaws.{root_has}
 use Rattle.along.specs.Ready.{AlongReady}

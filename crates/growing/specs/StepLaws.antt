@@ -20,7 +20,8 @@ use Rattle.grants.specs.Grants.{with_lists}
 use Rattle.granted.specs.Takes.{fresh_below}
 use Rattle.moves.specs.Moves.{moved}
 use Rattle.grows.specs.Grows.{stretched, appended_to}
-use Rattle.grown.proofs.Appending.{linked_after, length_linked}
+use Rattle.grown.specs.Appending.{linked_after}
+use Rattle.grown.proofs.Appending.{length_linked}
 use Rattle.growing.specs.Ready.{StepReady}
 
 -- After the rectangle was stored the entry can move,

@@ -7,7 +7,7 @@ ghost use Rattle.buckets.specs.FreeLists.{lists};
 ghost use Rattle.steps.specs.Spares.{HasSpare};
 ghost use Rattle.steps.specs.State.{state};
 ghost use Rattle.grows.specs.Grows.{stretched, appended_to};
-ghost use Rattle.grown.proofs.Appending.{linked_after};
+ghost use Rattle.grown.specs.Appending.{linked_after};
 ghost use Rattle.growing.specs.Ready.{StepReady};
 
 use geometry::{Orientation, Rectangle};

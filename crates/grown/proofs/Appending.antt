@@ -35,10 +35,7 @@ use Rattle.grown.specs.Fills.{Fills, Carries, Lone, Roots}
 use Rattle.grown.specs.Changed.{Change}
 use Rattle.grown.proofs.Changed.{change_fills, change_carries}
 use Rattle.grown.specs.Restock.{more_stocks}
-
--- The table with slot f linked after slot i.
-abbrev pub linked_after : List ℕ → AllocIndex → AllocIndex → Orientation → Rectangle → List ℕ
-linked_after w i f o t = stored (stored w i (toNext f)) f (to_node (tail_node i o t))
+use Rattle.grown.specs.Appending.{linked_after}
 
 pub length_linked : (w : List ℕ) (i f : AllocIndex) (o : Orientation) (t : Rectangle) → length (linked_after w i f o t) ≡ length w
 length_linked w i f o t = simp length_stored

@@ -20,34 +20,15 @@ use Rattle.links.specs.TestLaws.{fails, kind_says}
 use Rattle.lent.specs.Lent.{LentOf}
 use Rattle.granted.specs.Terms.{spare_at}
 use Rattle.strips.specs.Strips.{along, stretched_rect, appended_rect, strip_rect}
-use Rattle.grows.specs.Grows.{growth, last_from, stretched, appended_to, grown_along, grown_across, grown_both}
-use Rattle.grown.specs.Fills.{Fills, Carries, Lone, Roots, carries_same, carries_both}
+use Rattle.grows.specs.Grows.{growth, stretched, appended_to, grown_along, grown_across, grown_both}
+use Rattle.grown.specs.Fills.{Fills, Carries, Lone, carries_same, carries_both}
 use Rattle.grown.specs.Chains.{OnTop, last_on_top}
 use Rattle.grown.specs.Filled.{whole_some, last_some}
 use Rattle.grown.specs.Growths.{larger_some, appended_adjoins, appended_some, appended_join, whole_stretched, stretched_none, strip_adjoins, strip_joins, strip_some, along_alone}
 use Rattle.grown.proofs.Stretching.{last_steps, last_roots}
 use Rattle.grown.proofs.Appending.{append_steps}
 use Rattle.grown.proofs.Crossing.{cross_steps}
-
--- The root's orientation, and the last slot of the top chain.
-abbrev pub runs_at : State → Orientation
-runs_at s = (seen s.words s.head.root.0).orientation
-
-abbrev pub last_at : State → AllocIndex
-last_at s = last_from s.head.count s.words s.head.root
-
--- The slots that the step along needs, and those that the step across does.
-abbrev pub needs_along : State → Size → Size → ℕ
-needs_along s old new = pick (ltb 0 (along (runs_at s) (growth old new)) && not (free_entry s.words (last_at s).0)) 1 0
-
-abbrev pub needs_across : State → Size → Size → ℕ
-needs_across s old new = pick (ltb 0 (along (flip (runs_at s)) (growth old new))) 2 0
-
--- Tables after k new slots, whose top chain fills `all` and whose root is as it was.
-pub record Reaches (s t : State) (all : Rectangle) (k : ℕ) : Type 0 where
-  pub fills : Fills t all
-  pub carries : Carries s t k
-  pub roots : Roots s t
+use Rattle.grown.specs.Both.{runs_at, last_at, needs_along, needs_across, Reaches}
 
 module _ (s : State) (all : Rectangle) (L : LentOf s) (S : Fills s all) (lone : Lone s → ⊥) where
   -- ALONG by d: the last slot is stretched if Free, else one is appended to it. Its rectangle ends where the whole does.

@@ -1,7 +1,7 @@
-pub mod Appending
-pub mod Both
 pub mod Crossing
 pub mod Promises
 pub mod Stretching
 pub mod Whole
 pub mod Changed
+pub mod Appending
+pub mod Both

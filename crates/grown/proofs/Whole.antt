@@ -21,7 +21,8 @@ use Rattle.grown.specs.Fills.{Fills, Carries, Lone}
 use Rattle.grown.specs.Filled.{whole_some}
 use Rattle.grown.specs.Growths.{larger_some}
 use Rattle.grown.proofs.Stretching.{lone_steps}
-use Rattle.grown.proofs.Both.{needs_along, needs_across, both_steps}
+use Rattle.grown.specs.Both.{needs_along, needs_across}
+use Rattle.grown.proofs.Both.{both_steps}
 use Rattle.grown.specs.Terms.{GrowDue}
 
 module _ (s : State) (new : Size) (L : LentOf s) (S : Sound s) (G : GrowDue s new) where

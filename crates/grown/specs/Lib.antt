@@ -6,3 +6,5 @@ pub mod Restock
 pub mod Growths
 pub mod Filled
 pub mod Terms
+pub mod Both
+pub mod Appending
