@@ -6,7 +6,7 @@ use slots::AllocIndex;
 use steps::Head;
 
 // Beside the tables: how many slots they have, how many entries each list table has, and the head.
-#[derive(Drop)]
+#[derive(Clone, Copy)]
 pub struct Kept {
     pub slots: usize,
     pub entries: usize,

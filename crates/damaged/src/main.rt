@@ -8,15 +8,16 @@ mod edits;
 mod report;
 mod tally;
 
-ghost use Rattle.std.specs.Prelude.{◌*◌, ◌≤◌, length};
+ghost use Rattle.std.specs.Prelude.{◌*◌, ◌≤◌, length, IfOk};
 
 use edits::Kept;
 use reading::{Line, Reading};
+use std::io::{self, Read};
 use steps::Head;
 use tally::{Found, Tally};
 
 // What is kept from line to line, beside the tables and the counts of each rule.
-#[derive(Drop)]
+#[derive(Clone, Copy)]
 struct Run {
     kept: Kept,
     tally: Tally,
@@ -88,7 +89,7 @@ fn set_field(line: &[u32; 128], run: Run) -> Run {
 }
 
 // What the check gives of the tables, or that their lengths are out of range.
-#[derive(Drop)]
+#[derive(Clone, Copy)]
 enum Checked {
     Gave(Found),
     OutOfRange,
@@ -248,13 +249,14 @@ fn count_line(
 }
 
 // What is kept from line to line, and where the input stands.
-#[derive(Drop)]
+#[derive(Clone, Copy)]
 struct Pass {
     run: Run,
     reading: Reading,
 }
 
-fn take_next(
+fn take_next<R: Read>(
+    input: &mut R,
     line: &mut [u32; 128],
     buffer: &mut [u8; 65536],
     words: &mut [u32; 512],
@@ -262,24 +264,24 @@ fn take_next(
     lists: &mut [[u32; 128]; 3],
     rules: &mut [u64; 8],
     pass: Pass,
-) -> Pass
+) -> io::Result<Pass>
     requires { pass.reading.end ≤ 65536 }
-    ensures { result.reading.end ≤ 65536 }
+    ensures { IfOk result (λ after. after.reading.end ≤ 65536) }
 {
     let before = pass.reading;
     let run = pass.run;
-    let after = reading::next_line(line, buffer, before);
+    let after = reading::next_line(input, line, buffer, before)?;
     let read = after.line;
-    Pass {
+    Ok(Pass {
         run: count_line(line, read, words, generations, lists, rules, run),
         reading: after,
-    }
+    })
 }
 
 // Nothing says that the input ends, so the loop counts its turns down from a number that no run uses up.
-fn read_all(rules: &mut [u64; 8]) -> Tally {
+fn read_all<R: Read>(input: &mut R, rules: &mut [u64; 8]) -> io::Result<Tally> {
     let mut line = [0u32; 128];
-    let mut buffer = io::large_buffer();
+    let mut buffer = [0u8; 65536];
     let mut words = [0u32; 512];
     let mut generations = [0u8; 64];
     let list = [0u32; 128];
@@ -294,6 +296,7 @@ fn read_all(rules: &mut [u64; 8]) -> Tally {
     let mut turns = u64::MAX;
     while turns > 0 && !pass.reading.ended {
         pass = take_next(
+            input,
             &mut line,
             &mut buffer,
             &mut words,
@@ -301,15 +304,14 @@ fn read_all(rules: &mut [u64; 8]) -> Tally {
             &mut lists,
             rules,
             pass,
-        );
+        )?;
         turns -= 1;
     }
-    let run = pass.run;
-    run.tally
+    Ok(pass.run.tally)
 }
 
-fn main() {
+fn main(rt: HostRuntime) -> io::Result<()> {
     let mut rules = [0u64; 8];
-    let tally = read_all(&mut rules);
-    report::report(&rules, tally);
+    let tally = read_all(&mut rt.stdin(), &mut rules)?;
+    report::report(&rt, &rules, tally)
 }

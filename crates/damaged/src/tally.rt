@@ -1,7 +1,7 @@
 // The counts of what the list said and what the check found, and where the first difference stood.
 
 // What the check gave of the tables: the audit's rule and place, and the answer that a call would begin with.
-#[derive(Drop)]
+#[derive(Clone, Copy)]
 pub struct Found {
     pub rule: u32,
     pub place: u32,
@@ -9,7 +9,7 @@ pub struct Found {
 }
 
 // The lines so far, and the first mismatch and the first fault: line 0 where there was none.
-#[derive(Drop)]
+#[derive(Clone, Copy)]
 pub struct Tally {
     pub lines: u64,
     pub verdicts: u64,
