@@ -13,7 +13,7 @@ use taking::Allocation;
 use tickets::AllocId;
 
 // What a call of ours gave: whether its answers are those on the line, and the head after it.
-#[derive(Drop)]
+#[derive(Clone, Copy)]
 pub struct Given {
     pub agrees: bool,
     pub head: Head,

@@ -102,6 +102,7 @@ refused_allocate_gives_no_crop z s o call d = by_answer (answer_is_listed (Alloc
     by_answer (inr (inr (inr (inr (inl e))))) = value_of (allocate_refusal_changes_nothing s z call d (λ q. omega arith) (λ q. omega arith))
     by_answer (inr (inr (inr (inr (inr (inl e)))))) = same (refusal_6_and_7_leaves_the_search z s o call (inl e))
     by_answer (inr (inr (inr (inr (inr (inr (inl e))))))) = same (refusal_6_and_7_leaves_the_search z s o call (inr e))
+    by_answer (inr (inr (inr (inr (inr (inr (inr e))))))) = elim e [ ]
 
 pub refused_lookup_gives_no_rect : (i : AllocId) (s : State) (o : Given Rectangle) → IndexCall s i o → (o.answer ≡ 0 → ⊥) → o.value ≡ no_rect
 refused_lookup_gives_no_rect i s o call d = value_of (index_refused s i call d)
