@@ -26,17 +26,18 @@ use Rattle.cover.proofs.Points.{point_has_one_slot}
 use Rattle.cover.specs.Sums.{alloc_measure, free_measure, sum_slots, LeafAt, rect_at, InRect}
 use Rattle.starts.specs.Starts.{clear_call}
 use Rattle.starts.specs.StartSound.{start_leaves_sound, start_keeps_lent, clear_leaves_sound}
+use Rattle.starts.specs.StartWhen.{start_refusal_changes_nothing}
 use Rattle.empty.proofs.EmptyWhen.{empty_changes_nothing}
 use Rattle.outcomes.specs.Given.{Given}
 use Rattle.grants.specs.Grants.{Grant}
 use Rattle.granted.specs.Terms.{Roomy, Refuses, GivesOut}
 use Rattle.allocate.specs.Allocate.{Crop, AllocateCall}
-use Rattle.allocate.specs.AllocateWhen.{asks, Taken, as_grant, allocate_gives_6, allocate_keeps_sound, allocate_refusal_changes_lists_alone, allocate_gives_out}
+use Rattle.allocate.specs.AllocateWhen.{asks, Taken, as_grant, allocate_gives_6, allocate_keeps_sound, allocate_refusal_changes_nothing, allocate_refusal_changes_lists_alone, allocate_gives_out}
 use Rattle.freed.specs.Terms.{Among, Tickets, SameSlots, OneFree}
-use Rattle.deallocate.specs.DeallocateWhen.{deallocate_keeps_sound, deallocate_frees_one, DeallocateEach, deallocate_order_is_free, deallocate_all_leaves_one}
-use Rattle.grow.specs.GrowWhen.{grow_keeps_sound, grow_keeps_tickets}
+use Rattle.deallocate.specs.DeallocateWhen.{deallocate_refused, deallocate_keeps_sound, deallocate_frees_one, DeallocateEach, deallocate_order_is_free, deallocate_all_leaves_one}
+use Rattle.grow.specs.GrowWhen.{grow_refused, grow_keeps_sound, grow_keeps_tickets}
 use Rattle.promises.specs.Calls.{Call, Start, Reset, Clear, Allocate, Deallocate, Grow, Index, Listing, IsEmpty, Leaves, Run, Done, Then, Spares}
-use Rattle.promises.specs.Demand1.{after_of, refusal_changes_nothing}
+use Rattle.promises.specs.Demand1.{after_of}
 use Rattle.promises.specs.Demand2.{lookup_is_its_model, listing_is_its_model}
 
 -- COVERED ONCE. Each point of the sheet lies in the rectangle of an Alloc or Free slot, and of no other one.
@@ -79,7 +80,7 @@ started z o s k t e L S = let f = after_of e in (by (ℕ_discrete k 0), rw f.1 (
   where
     by : Dec (k ≡ 0) → Sound t
     by (yes q) = let f = after_of e in rw f.1 (start_leaves_sound z o s (sym f.0 ∙ q))
-    by (no n) = rw (refusal_changes_nothing (Start z o) s k t e n) S
+    by (no n) = let f = after_of e in rw (f.1 ∙ start_refusal_changes_nothing z o s (rw f.0 at n)) S
 
 -- NO CALL MAKES THEM UNSOUND, whatever it answers.
 pub no_call_makes_unsound : (c : Call) (s : State) (k : ℕ) (t : State) → Leaves c s k t → LentOf s → Sound s → Sound t × LentOf t
@@ -122,17 +123,17 @@ ticket_keeps_its_rectangle (Allocate z) s k t (c, call) L S i _ v = by (ℕ_disc
     by (yes q) _ _ = let (e, _, out) = allocate_gives_out s z call q in out.others i v
     by (no _) (yes q) _ = let (e, _, r) = allocate_refusal_changes_lists_alone s z call (inl q) in stays_searched _ r v
     by (no _) (no _) (yes q) = let (e, _, r) = allocate_refusal_changes_lists_alone s z call (inr q) in stays_searched _ r v
-    by (no a) (no b) (no d) = stays_same (refusal_changes_nothing (Allocate z) s k t (c, call) (a, b, d)) v
+    by (no a) (no b) (no d) = stays_same (after_of (allocate_refusal_changes_nothing s z call a b d)).1 v
 ticket_keeps_its_rectangle (Deallocate j) s k t call L S i d v = by (ℕ_discrete k 0)
   where
     by : Dec (k ≡ 0) → Stays s t i
     by (yes q) = (deallocate_frees_one s j call q).others i v d
-    by (no n) = stays_same (refusal_changes_nothing (Deallocate j) s k t call n) v
+    by (no n) = stays_same (after_of (deallocate_refused s j call n)).1 v
 ticket_keeps_its_rectangle (Grow z) s k t call L S i _ v = by (ℕ_discrete k 0)
   where
     by : Dec (k ≡ 0) → Stays s t i
     by (yes q) = (grow_keeps_tickets s z call q).stays i v
-    by (no n) = stays_same (refusal_changes_nothing (Grow z) s k t call n) v
+    by (no n) = stays_same (after_of (grow_refused s z call n)).1 v
 ticket_keeps_its_rectangle (Index j) s k t (r, call) L S i _ v = stays_same (ap (λ g. g.after) (lookup_is_its_model s L S j _ call)) v
 ticket_keeps_its_rectangle (Listing kind out) s k t (f, call) L S i _ v = stays_same (ap (λ g. g.after) (listing_is_its_model s L S kind out _ call)) v
 ticket_keeps_its_rectangle IsEmpty s k t (b, call) L S i _ v = stays_same (empty_changes_nothing call) v
@@ -146,7 +147,7 @@ pub accepted_start_leaves_sound : (z : Size) (o : AllocatorOptions) (s : State) 
 accepted_start_leaves_sound z o s t e = let f = after_of e in rw f.1 (start_leaves_sound z o s (sym f.0))
 
 pub accepted_reset_leaves_sound : (z : Size) (o : AllocatorOptions) (s : State) (t : State) → Leaves (Reset z o) s 0 t → Sound t
-accepted_reset_leaves_sound = accepted_start_leaves_sound
+accepted_reset_leaves_sound z o s t e = let f = after_of e in rw f.1 (start_leaves_sound z o s (sym f.0))
 
 pub accepted_clear_leaves_sound : (s : State) (t : State) → Leaves Clear s 0 t → Sound t
 accepted_clear_leaves_sound s t e = let f = after_of e in rw f.1 (clear_leaves_sound s (sym f.0))

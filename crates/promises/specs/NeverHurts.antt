@@ -15,10 +15,10 @@ use Rattle.granted.specs.Terms.{Roomy}
 use Rattle.rooms.proofs.Roomy.{release_roomy}
 use Rattle.grown.proofs.Promises.{grown_roomy}
 use Rattle.allocate.specs.AllocateWhen.{asks, TooLargeSide, allocate_gives_4, allocate_gives_5, allocate_gives_6}
-use Rattle.deallocate.specs.DeallocateWhen.{deallocate_gives_0, deallocate_frees, deallocate_frees_one}
-use Rattle.grow.specs.GrowWhen.{grow_gives_0, grow_grows, grow_keeps_tickets}
+use Rattle.deallocate.specs.DeallocateWhen.{deallocate_gives_0, deallocate_frees, deallocate_frees_one, deallocate_refused}
+use Rattle.grow.specs.GrowWhen.{grow_gives_0, grow_grows, grow_keeps_tickets, grow_refused}
 use Rattle.promises.specs.Calls.{Call, Start, Reset, Clear, Allocate, Deallocate, Grow, Index, Listing, IsEmpty, Leaves}
-use Rattle.promises.specs.Demand1.{refusal_changes_nothing}
+use Rattle.promises.specs.Demand1.{after_of}
 use Rattle.promises.specs.Demand3.{no_call_makes_unsound}
 
 -- An answer of allocate other than 4, 5 and 6: there is room.
@@ -63,7 +63,7 @@ eases (Deallocate i) s k t _ call L S = by (ℕ_discrete k 0)
         let v = ((deallocate_gives_0 s i call).0 q).2 in
         let e = ap (λ g. g.after) (deallocate_frees s i call q) in
         record { options = (deallocate_frees_one s i call q).same.options; rooms = λ d x r. rw e (release_roomy s L S i v d x r) }
-    by (no n) = no_worse_same (refusal_changes_nothing (Deallocate i) s k t call n)
+    by (no n) = no_worse_same (after_of (deallocate_refused s i call n)).1
 eases (Grow z) s k t _ call L S = by (ℕ_discrete k 0)
   where
     by : Dec (k ≡ 0) → NoWorse s t
@@ -71,7 +71,7 @@ eases (Grow z) s k t _ call L S = by (ℕ_discrete k 0)
         let d = ((grow_gives_0 s z call).0 q).2 in
         let e = ap (λ g. g.after) (grow_grows s z call q) in
         record { options = (grow_keeps_tickets s z call q).options; rooms = λ f x r. (x, rw e (grown_roomy s z L S d f x r)) }
-    by (no n) = no_worse_same (refusal_changes_nothing (Grow z) s k t call n)
+    by (no n) = no_worse_same (after_of (grow_refused s z call n)).1
 eases (Index i) s k t no_call l L S = absurd no_call
 eases (Listing kind out) s k t no_call l L S = absurd no_call
 eases IsEmpty s k t no_call l L S = absurd no_call

@@ -1,0 +1,9 @@
+-- `ferrunchju::ferrunchju_grow` meets its contract: what the call ensures, of the head that the words held and the one that was written over them.
+-- Assumes nothing.
+use Rattle.heads.specs.WordLaws.{size_read}
+use Rattle.ferrunchju.specs.HeadLaws.{grow_short}
+use borrow.Author.Rules.{rules}
+use Rattle.ferrunchju.proofs.ferrunchju_grow.Goals as goal
+
+pub put_head-requires : goal.put_head-requires
+put_head-requires c = grow_short _ c.grow-grown.ensures c.head_of-before.ensures.1
