@@ -13,9 +13,7 @@ put_changes-requires c = let read = c.head_of-before.ensures.1 in
 pub returns : goal.returns
 returns c = let args = c.args in
     let fits = c.ranges in
-    let size_is = size_read {w = args.width} {h = args.height} c.allocate-arg-3-1.ensures fits.width.sfits fits.height.sfits in
+    let size_is = size_read {w = args.width} {h = args.height} c.size_of-size.ensures fits.width.sfits fits.height.sfits in
     let told = c.allocate-got.ensures in
     rw (c.put_crop.ensures.0, c.put_crop.ensures.1, c.put_changes.ensures, ← c.head_of-before.ensures.0, allocate_rest _ told)
     (rw size_is at told)
-
--- ! step type_size but place After-allocate-arg3 has allocate-arg3/allocate-arg-3-1

@@ -6,3 +6,6 @@ use Rattle.ferrunchju.proofs.ferrunchju_clear.Goals as goal
 
 pub put_head-requires : goal.put_head-requires
 put_head-requires c = clear_short _ c.clear-begun.ensures c.head_of-before.ensures.1
+
+pub returns : goal.returns
+returns c = rw (c.put_head.ensures, ← c.head_of-before.ensures.0) c.clear-begun.ensures

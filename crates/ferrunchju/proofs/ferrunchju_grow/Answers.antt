@@ -7,3 +7,9 @@ use Rattle.ferrunchju.proofs.ferrunchju_grow.Goals as goal
 
 pub put_head-requires : goal.put_head-requires
 put_head-requires c = grow_short _ c.grow-grown.ensures c.head_of-before.ensures.1
+
+pub returns : goal.returns
+returns c = let args = c.args in
+    let fits = c.ranges in
+    let size_is = size_read {w = args.width} {h = args.height} c.size_of-size.ensures fits.width.sfits fits.height.sfits in
+    rw (c.put_head.ensures, ← c.head_of-before.ensures.0) (rw size_is at c.grow-grown.ensures)

@@ -11,8 +11,6 @@ put_head-requires c = start_short _ _ _ c.start-begun.ensures c.head_of-before.e
 pub returns : goal.returns
 returns c = let fits = c.ranges in
     let args = c.args in
-    let sheet-is = size_read {w = args.width} {h = args.height} c.options_of-options.ensures fits.width.sfits fits.height.sfits in
-    let options-are = options_read {w = args.alignment-width} {h = args.alignment-height} {a = args.small-threshold} {b = args.large-threshold} c.options_of-options.ensures fits.alignment-width.sfits fits.alignment-height.sfits fits.small-threshold.sfits fits.large-threshold.sfits in
-    rw (c.put_head.ensures, ← c.head_of-before.ensures.0) (rw (sheet-is, options-are) at c.start-begun.ensures)
-
--- ! step type_size but place After-options_of has options_of/options_of-options
+    let sheet_is = size_read {w = args.width} {h = args.height} c.size_of-sheet.ensures fits.width.sfits fits.height.sfits in
+    let options_are = options_read {w = args.alignment_width} {h = args.alignment_height} {a = args.small_threshold} {b = args.large_threshold} c.options_of-options.ensures fits.alignment_width.sfits fits.alignment_height.sfits fits.small_threshold.sfits fits.large_threshold.sfits in
+    rw (c.put_head.ensures, ← c.head_of-before.ensures.0) (rw (sheet_is, options_are) at c.start-begun.ensures)
