@@ -8,6 +8,7 @@ ghost use Rattle.std.specs.Prelude.{◌*◌, ◌≤◌, length};
 use buckets::Lengths;
 use geometry::{AllocatorOptions, Size};
 use slots::AllocIndex;
+use std::io;
 use steps::Head;
 use tickets::AllocId;
 
@@ -37,6 +38,7 @@ fn no_head() -> Head {
 
 // Starts a sheet with an alignment and thresholds, and writes the answer.
 fn begin_with(
+    rt: &impl Print,
     words: &mut [u32],
     generations: &mut [u8],
     small: &mut [u32],
@@ -44,7 +46,7 @@ fn begin_with(
     large: &mut [u32],
     sheet: Size,
     options: AllocatorOptions,
-) -> Head {
+) -> io::Result<Head> {
     let begun = starts::start(
         words,
         generations,
@@ -56,13 +58,14 @@ fn begin_with(
         options,
     );
     let head = begun.head;
-    show::size(b"start ", sheet.width, sheet.height);
-    show::answer(begun.answer);
-    head
+    show::size(rt, "start ", sheet.width, sheet.height)?;
+    show::answer(rt, begun.answer)?;
+    Ok(head)
 }
 
 // Allocates a size, and writes answer, ticket and rectangle.
 fn take(
+    rt: &impl Print,
     words: &mut [u32],
     generations: &mut [u8],
     small: &mut [u32],
@@ -71,20 +74,21 @@ fn take(
     head: Head,
     width: i32,
     height: i32,
-) -> Head {
+) -> io::Result<Head> {
     let size = Size {
         width: width,
         height: height,
     };
     let given = allocate::allocate(words, generations, small, medium, large, head, size);
     let after = given.head;
-    show::size(b"allocate ", width, height);
-    show::allocation(given);
-    after
+    show::size(rt, "allocate ", width, height)?;
+    show::allocation(rt, given)?;
+    Ok(after)
 }
 
 // Frees a ticket, and writes the answer.
 fn free(
+    rt: &impl Print,
     words: &mut [u32],
     generations: &[u8],
     small: &mut [u32],
@@ -92,7 +96,7 @@ fn free(
     large: &mut [u32],
     head: Head,
     ticket: u32,
-) -> Head {
+) -> io::Result<Head> {
     let freed = deallocate::deallocate(
         words,
         generations,
@@ -103,14 +107,14 @@ fn free(
         AllocId(ticket),
     );
     let after = freed.head;
-    io::write_all(1, b"free ");
-    io::print_decimal(1, ticket as u64);
-    show::answer(freed.answer);
-    after
+    print!(rt; "free {ticket}")?;
+    show::answer(rt, freed.answer)?;
+    Ok(after)
 }
 
 // Grows the sheet, and writes the answer.
 fn grow_to(
+    rt: &impl Print,
     words: &mut [u32],
     generations: &mut [u8],
     small: &mut [u32],
@@ -118,12 +122,12 @@ fn grow_to(
     large: &mut [u32],
     head: Head,
     size: Size,
-) -> Head {
+) -> io::Result<Head> {
     let grown = grow::grow(words, generations, small, medium, large, head, size);
     let after = grown.head;
-    show::size(b"grow ", size.width, size.height);
-    show::answer(grown.answer);
-    after
+    show::size(rt, "grow ", size.width, size.height)?;
+    show::answer(rt, grown.answer)?;
+    Ok(after)
 }
 
 // Thresholds 32 and 256.
@@ -146,7 +150,7 @@ fn square(side: i32) -> Size {
 }
 
 // A call of a day, or a look at the tables.
-#[derive(Drop)]
+#[derive(Clone, Copy)]
 enum Order {
     Start(Size, AllocatorOptions),
     Take(i32, i32),
@@ -156,6 +160,7 @@ enum Order {
 }
 
 fn act(
+    rt: &impl Print,
     words: &mut [u32; 64],
     generations: &mut [u8; 8],
     small: &mut [u32; 8],
@@ -163,9 +168,10 @@ fn act(
     large: &mut [u32; 8],
     head: Head,
     order: Order,
-) -> Head {
+) -> io::Result<Head> {
     match order {
         Order::Start(sheet, options) => begin_with(
+            rt,
             words,
             generations,
             small,
@@ -175,6 +181,7 @@ fn act(
             options,
         ),
         Order::Take(width, height) => take(
+            rt,
             words,
             generations,
             small,
@@ -184,11 +191,11 @@ fn act(
             width,
             height,
         ),
-        Order::Free(ticket) => free(words, generations, small, medium, large, head, ticket),
-        Order::Grow(size) => grow_to(words, generations, small, medium, large, head, size),
+        Order::Free(ticket) => free(rt, words, generations, small, medium, large, head, ticket),
+        Order::Grow(size) => grow_to(rt, words, generations, small, medium, large, head, size),
         Order::Look => {
-            show::tables(words, small, medium, large, head);
-            head
+            show::tables(rt, words, small, medium, large, head)?;
+            Ok(head)
         }
     }
 }
@@ -255,7 +262,7 @@ fn order_of(day: u32, k: u32) -> Order {
 }
 
 // So many orders of a day.
-fn play(day: u32, count: u32) {
+fn play(rt: &impl Print, day: u32, count: u32) -> io::Result<()> {
     let mut words = [7u32; 64];
     let mut generations = [7u8; 8];
     let mut small = [7u32; 8];
@@ -265,6 +272,7 @@ fn play(day: u32, count: u32) {
     let mut k = 0;
     while k < count {
         head = act(
+            rt,
             &mut words,
             &mut generations,
             &mut small,
@@ -272,13 +280,15 @@ fn play(day: u32, count: u32) {
             &mut large,
             head,
             order_of(day, k),
-        );
+        )?;
         k += 1;
     }
+    Ok(())
 }
 
 // A sheet with options, and one request on it.
 fn request_on(
+    rt: &impl Print,
     words: &mut [u32],
     generations: &mut [u8],
     small: &mut [u32],
@@ -288,9 +298,10 @@ fn request_on(
     options: AllocatorOptions,
     width: i32,
     height: i32,
-) -> Head {
-    let head = begin_with(words, generations, small, medium, large, sheet, options);
+) -> io::Result<Head> {
+    let head = begin_with(rt, words, generations, small, medium, large, sheet, options)?;
     take(
+        rt,
         words,
         generations,
         small,
@@ -303,13 +314,20 @@ fn request_on(
 }
 
 // One request with eight slots.
-fn one(sheet: Size, options: AllocatorOptions, width: i32, height: i32) {
+fn one(
+    rt: &impl Print,
+    sheet: Size,
+    options: AllocatorOptions,
+    width: i32,
+    height: i32,
+) -> io::Result<()> {
     let mut words = [7u32; 64];
     let mut generations = [7u8; 8];
     let mut small = [7u32; 8];
     let mut medium = [7u32; 8];
     let mut large = [7u32; 8];
     let head = request_on(
+        rt,
         &mut words,
         &mut generations,
         &mut small,
@@ -319,12 +337,13 @@ fn one(sheet: Size, options: AllocatorOptions, width: i32, height: i32) {
         options,
         width,
         height,
-    );
-    show::tables(&words, &small, &medium, &large, head);
+    )?;
+    show::tables(rt, &words, &small, &medium, &large, head)
 }
 
 // One request on a sheet of side 10, with the first n slots and entries of the tables.
 fn request_in(
+    rt: &impl Print,
     words: &mut [u32],
     generations: &mut [u8],
     small: &mut [u32],
@@ -333,7 +352,7 @@ fn request_in(
     n: usize,
     width: i32,
     height: i32,
-) -> Head
+) -> io::Result<Head>
     requires n_in_bounds { n * 8 ≤ length words.old }
     requires n_in_bounds_2 { n ≤ length generations.old }
     requires n_in_bounds_3 { n ≤ length small.old }
@@ -342,6 +361,7 @@ fn request_in(
 {
     let ends = n * 8;
     request_on(
+        rt,
         &mut words[..ends],
         &mut generations[..n],
         &mut small[..n],
@@ -355,7 +375,7 @@ fn request_in(
 }
 
 // The same with N = n, which is at most 5.
-fn with_slots(n: usize, width: i32, height: i32)
+fn with_slots(rt: &impl Print, n: usize, width: i32, height: i32) -> io::Result<()>
     requires { n ≤ 5 }
 {
     let mut words = [7u32; 40];
@@ -363,10 +383,9 @@ fn with_slots(n: usize, width: i32, height: i32)
     let mut small = [7u32; 5];
     let mut medium = [7u32; 5];
     let mut large = [7u32; 5];
-    io::write_all(1, b"N = ");
-    io::print_decimal(1, n as u64);
-    io::write_all(1, b": ");
+    print!(rt; "N = {n}: ")?;
     let head = request_in(
+        rt,
         &mut words,
         &mut generations,
         &mut small,
@@ -375,79 +394,79 @@ fn with_slots(n: usize, width: i32, height: i32)
         n,
         width,
         height,
-    );
-    show::tables(&words, &small, &medium, &large, head);
+    )?;
+    show::tables(rt, &words, &small, &medium, &large, head)
 }
 
 // Each needs one slot more than the one before.
-fn tight() {
-    with_slots(1, 10, 10);
-    with_slots(1, 10, 4);
-    with_slots(2, 10, 4);
-    with_slots(2, 5, 10);
-    with_slots(3, 5, 10);
-    with_slots(3, 4, 4);
-    with_slots(4, 4, 4);
-    with_slots(4, 3, 6);
-    with_slots(5, 3, 6);
+fn tight(rt: &impl Print) -> io::Result<()> {
+    with_slots(rt, 1, 10, 10)?;
+    with_slots(rt, 1, 10, 4)?;
+    with_slots(rt, 2, 10, 4)?;
+    with_slots(rt, 2, 5, 10)?;
+    with_slots(rt, 3, 5, 10)?;
+    with_slots(rt, 3, 4, 4)?;
+    with_slots(rt, 4, 4, 4)?;
+    with_slots(rt, 4, 3, 6)?;
+    with_slots(rt, 5, 3, 6)
 }
 
 // Requests that are rounded, too large, without space, and not positive.
-fn requests() {
-    one(square(1000), aligned(5, 2), 7, 3);
-    one(square(1000), aligned(2, 1), 2147483647, 1);
-    one(square(1000), aligned(1, 1), 2147483647, 1);
-    one(square(1000), aligned(1, 1), 0, 1);
-    one(square(1000), aligned(1, 1), 1, 0);
-    one(square(1000), aligned(1, 1), -2147483648, 1);
+fn requests(rt: &impl Print) -> io::Result<()> {
+    one(rt, square(1000), aligned(5, 2), 7, 3)?;
+    one(rt, square(1000), aligned(2, 1), 2147483647, 1)?;
+    one(rt, square(1000), aligned(1, 1), 2147483647, 1)?;
+    one(rt, square(1000), aligned(1, 1), 0, 1)?;
+    one(rt, square(1000), aligned(1, 1), 1, 0)?;
+    one(rt, square(1000), aligned(1, 1), -2147483648, 1)
 }
 
 // A square sheet and a request of 0x0, which changes nothing: the sheet's one entry stands in its bucket's list.
-fn sheet(side: i32) {
-    one(square(side), aligned(1, 1), 0, 0);
+fn sheet(rt: &impl Print, side: i32) -> io::Result<()> {
+    one(rt, square(side), aligned(1, 1), 0, 0)
 }
 
 // Sides at both ends, of buckets and of sheets.
-fn sides() {
-    sheet(31);
-    sheet(32);
-    sheet(255);
-    sheet(256);
-    sheet(1);
-    sheet(65536);
-    sheet(65537);
-    sheet(2147483647);
-    sheet(0);
-    sheet(-1);
+fn sides(rt: &impl Print) -> io::Result<()> {
+    sheet(rt, 31)?;
+    sheet(rt, 32)?;
+    sheet(rt, 255)?;
+    sheet(rt, 256)?;
+    sheet(rt, 1)?;
+    sheet(rt, 65536)?;
+    sheet(rt, 65537)?;
+    sheet(rt, 2147483647)?;
+    sheet(rt, 0)?;
+    sheet(rt, -1)
 }
 
 // The same with thresholds.
-fn threshold(low: i32, high: i32) {
+fn threshold(rt: &impl Print, low: i32, high: i32) -> io::Result<()> {
     let mut options = aligned(1, 1);
     options.small = low;
     options.large = high;
-    one(square(100), options, 0, 0);
+    one(rt, square(100), options, 0, 0)
 }
 
 // Thresholds and alignments at both ends.
-fn thresholds() {
-    threshold(-2147483648, 2147483647);
-    threshold(2147483647, 2147483647);
-    threshold(-2147483648, -2147483648);
-    threshold(33, 32);
-    one(square(100), aligned(2147483647, 2147483647), 1, 1);
-    one(square(100), aligned(0, 1), 1, 1);
-    one(square(100), aligned(1, -1), 1, 1);
+fn thresholds(rt: &impl Print) -> io::Result<()> {
+    threshold(rt, -2147483648, 2147483647)?;
+    threshold(rt, 2147483647, 2147483647)?;
+    threshold(rt, -2147483648, -2147483648)?;
+    threshold(rt, 33, 32)?;
+    one(rt, square(100), aligned(2147483647, 2147483647), 1, 1)?;
+    one(rt, square(100), aligned(0, 1), 1, 1)?;
+    one(rt, square(100), aligned(1, -1), 1, 1)
 }
 
-fn main() {
-    play(0, 7);
-    play(1, 9);
-    play(2, 9);
-    play(3, 5);
-    play(4, 8);
-    tight();
-    requests();
-    sides();
-    thresholds();
+fn main(rt: HostRuntime) -> io::Result<()> {
+    play(&rt, 0, 7)?;
+    play(&rt, 1, 9)?;
+    play(&rt, 2, 9)?;
+    play(&rt, 3, 5)?;
+    play(&rt, 4, 8)?;
+    tight(&rt)?;
+    requests(&rt)?;
+    sides(&rt)?;
+    thresholds(&rt)
 }

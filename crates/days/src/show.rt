@@ -1,122 +1,112 @@
 // What the program writes: a call with its answer, a ticket, a rectangle, a list, a slot.
 use geometry::Rectangle;
+use std::io;
 use steps::Head;
 use taking::Allocation;
 
 // A side, in words if it is below 0.
-fn side(n: i32) {
+fn side(rt: &impl Print, n: i32) -> io::Result<()> {
     if n < 0 {
-        io::write_all(1, b"less than 0");
-        return;
+        return print!(rt; "less than 0");
     }
-    io::print_decimal(1, geometry::natural(n) as u64);
+    print!(rt; "{n}")
 }
 
 // Words, and two sides joined by an x.
-pub fn size(words: &[u8], width: i32, height: i32) {
-    io::write_all(1, words);
-    side(width);
-    io::write_all(1, b"x");
-    side(height);
+pub fn size(rt: &impl Print, words: &str, width: i32, height: i32) -> io::Result<()> {
+    print!(rt; "{words}")?;
+    side(rt, width)?;
+    print!(rt; "x")?;
+    side(rt, height)
 }
 
-fn corner(x: u32, y: u32) {
-    io::write_all(1, b"(");
-    io::print_decimal(1, x as u64);
-    io::write_all(1, b",");
-    io::print_decimal(1, y as u64);
-    io::write_all(1, b")");
+fn corner(rt: &impl Print, x: u32, y: u32) -> io::Result<()> {
+    print!(rt; "({x},{y})")
 }
 
 // Corners min-max.
-fn rectangle(rect: Rectangle) {
-    corner(rect.x0, rect.y0);
-    io::write_all(1, b"-");
-    corner(rect.x1, rect.y1);
+fn rectangle(rt: &impl Print, rect: Rectangle) -> io::Result<()> {
+    corner(rt, rect.x0, rect.y0)?;
+    print!(rt; "-")?;
+    corner(rt, rect.x1, rect.y1)
 }
 
 // An answer, and the end of the line.
-pub fn answer(n: u32) {
-    io::write_all(1, b": ");
-    io::print_decimal(1, n as u64);
-    io::write_all(1, b"\n");
+pub fn answer(rt: &impl Print, n: u32) -> io::Result<()> {
+    println!(rt; ": {n}")
 }
 
 // An allocate's answer, with ticket and rectangle.
-pub fn allocation(a: Allocation) {
-    let id = a.id;
-    let rect = a.rectangle;
-    io::write_all(1, b": ");
-    io::print_decimal(1, a.answer as u64);
-    io::write_all(1, b", ticket ");
-    io::print_decimal(1, id.0 as u64);
-    io::write_all(1, b", ");
-    rectangle(rect);
-    io::write_all(1, b"\n");
+pub fn allocation(rt: &impl Print, a: Allocation) -> io::Result<()> {
+    print!(rt; ": {}, ticket {}, ", a.answer, a.id.0)?;
+    rectangle(rt, a.rectangle)?;
+    println!(rt)
 }
 
 // A link, - for none.
-fn link(i: u32) {
+fn link(rt: &impl Print, i: u32) -> io::Result<()> {
     if i == slots::NONE {
-        io::write_all(1, b"-");
-        return;
+        return print!(rt; "-");
     }
-    io::print_decimal(1, i as u64);
+    print!(rt; "{i}")
 }
 
 // The first entries of a list.
-pub fn list(words: &[u8], list: &[u32], len: usize) {
-    io::write_all(1, words);
+pub fn list(rt: &impl Print, words: &str, list: &[u32], len: usize) -> io::Result<()> {
+    print!(rt; "{words}")?;
     let mut k = 0;
     while k < list.len() && k < len {
-        io::write_all(1, b" ");
-        link(list[k]);
+        print!(rt; " ")?;
+        link(rt, list[k])?;
         k += 1;
     }
-    io::write_all(1, b"\n");
+    println!(rt)
 }
 
 // What stands before a word of the slot table, and after it.
-fn before_word(k: usize) {
+fn before_word(rt: &impl Print, k: usize) -> io::Result<()> {
     if k % 8 == 0 {
-        io::write_all(1, b"  slot ");
-        io::print_decimal(1, (k / 8) as u64);
-        io::write_all(1, b":");
+        print!(rt; "  slot {}:", k / 8)?;
     }
-    io::write_all(1, b" ");
+    print!(rt; " ")
 }
 
-fn after_word(k: usize) {
+fn after_word(rt: &impl Print, k: usize) -> io::Result<()> {
     if k % 8 == 7 {
-        io::write_all(1, b"\n");
+        println!(rt)?;
     }
+    Ok(())
 }
 
 // The words of the first slots, eight to a line: parent, next, prev, code (kind + 4 times orientation) and corners.
-fn slots(words: &[u32], count: usize) {
+fn slots(rt: &impl Print, words: &[u32], count: usize) -> io::Result<()> {
     let mut k = 0;
     while k < words.len() && k / 8 < count {
-        before_word(k);
-        link(words[k]);
-        after_word(k);
+        before_word(rt, k)?;
+        link(rt, words[k])?;
+        after_word(rt, k)?;
         k += 1;
     }
+    Ok(())
 }
 
 // The head, the slots below n, and the lists.
-pub fn tables(words: &[u32], small: &[u32], medium: &[u32], large: &[u32], head: Head) {
-    let root = head.root;
-    let spare = head.spare;
+pub fn tables(
+    rt: &impl Print,
+    words: &[u32],
+    small: &[u32],
+    medium: &[u32],
+    large: &[u32],
+    head: Head,
+) -> io::Result<()> {
     let lengths = head.lengths;
-    io::write_all(1, b"  root ");
-    link(root.0);
-    io::write_all(1, b", spare ");
-    link(spare.0);
-    io::write_all(1, b", slots ");
-    io::print_decimal(1, head.count as u64);
-    io::write_all(1, b"\n");
-    slots(words, head.count as usize);
-    list(b"  small list", small, lengths.small);
-    list(b"  medium list", medium, lengths.medium);
-    list(b"  large list", large, lengths.large);
+    print!(rt; "  root ")?;
+    link(rt, head.root.0)?;
+    print!(rt; ", spare ")?;
+    link(rt, head.spare.0)?;
+    println!(rt; ", slots {}", head.count)?;
+    slots(rt, words, head.count as usize)?;
+    list(rt, "  small list", small, lengths.small)?;
+    list(rt, "  medium list", medium, lengths.medium)?;
+    list(rt, "  large list", large, lengths.large)
 }

@@ -5,9 +5,10 @@
 
 mod take;
 
-ghost use Rattle.std.specs.Prelude.{◌≤◌};
+ghost use Rattle.std.specs.Prelude.{◌≤◌, IfOk};
 
 use reading::{Line, Reading};
+use std::io::{self, Read};
 use take::Kept;
 use tally::Tally;
 
@@ -36,7 +37,7 @@ fn is_in_form(line: &[u32; 128], read: Line) -> bool {
 }
 
 // What is kept from line to line, beside the tables and the counts of each kind.
-#[derive(Drop)]
+#[derive(Clone, Copy)]
 struct Run {
     kept: Kept,
     tally: Tally,
@@ -74,38 +75,39 @@ fn take_line(
 }
 
 // What is kept from line to line, and where the input stands.
-#[derive(Drop)]
+#[derive(Clone, Copy)]
 struct Pass {
     run: Run,
     reading: Reading,
 }
 
-fn take_next(
+fn take_next<R: Read>(
+    input: &mut R,
     line: &mut [u32; 128],
     buffer: &mut [u8; 65536],
     tables: &mut [[u32; 2048]; 8],
     generations: &mut [[u8; 256]; 2],
     counts: &mut [u64; 32],
     pass: Pass,
-) -> Pass
+) -> io::Result<Pass>
     requires { pass.reading.end ≤ 65536 }
-    ensures { result.reading.end ≤ 65536 }
+    ensures { IfOk result (λ after. after.reading.end ≤ 65536) }
 {
     let before = pass.reading;
     let run = pass.run;
-    let after = reading::next_line(line, buffer, before);
+    let after = reading::next_line(input, line, buffer, before)?;
     let read = after.line;
-    Pass {
+    Ok(Pass {
         run: take_line(line, read, tables, generations, counts, run),
         reading: after,
-    }
+    })
 }
 
 // Our tables begin with numbers that a start has to write over. Nothing says that the input ends, so the loop counts its
 // turns down from a number that no run uses up.
-fn read_all(counts: &mut [u64; 32]) -> Tally {
+fn read_all<R: Read>(input: &mut R, counts: &mut [u64; 32]) -> io::Result<Tally> {
     let mut line = [0u32; 128];
-    let mut buffer = io::large_buffer();
+    let mut buffer = [0u8; 65536];
     let sevens = [7u32; 2048];
     let mut tables = [sevens; 8];
     let bytes = [7u8; 256];
@@ -120,21 +122,21 @@ fn read_all(counts: &mut [u64; 32]) -> Tally {
     let mut turns = u64::MAX;
     while turns > 0 && !pass.reading.ended {
         pass = take_next(
+            input,
             &mut line,
             &mut buffer,
             &mut tables,
             &mut generations,
             counts,
             pass,
-        );
+        )?;
         turns -= 1;
     }
-    let run = pass.run;
-    run.tally
+    Ok(pass.run.tally)
 }
 
-fn main() {
+fn main(rt: HostRuntime) -> io::Result<()> {
     let mut counts = [0u64; 32];
-    let tally = read_all(&mut counts);
-    tally::report(&counts, tally);
+    let tally = read_all(&mut rt.stdin(), &mut counts)?;
+    tally::report(&rt, &counts, tally)
 }

@@ -6,7 +6,7 @@ use tally::{Call, Verdict};
 
 // What is kept from line to line beside the tables: the head that the list tells of, what our last call gave, and the call
 // that is open.
-#[derive(Drop)]
+#[derive(Clone, Copy)]
 pub struct Kept {
     pub told: Head,
     pub ours: Given,
@@ -14,7 +14,7 @@ pub struct Kept {
 }
 
 // What is kept after a line, and what is found of it.
-#[derive(Drop)]
+#[derive(Clone, Copy)]
 pub struct Step {
     pub kept: Kept,
     pub verdict: Verdict,
