@@ -8,7 +8,7 @@ mod edits;
 mod report;
 mod tally;
 
-ghost use Rattle.std.specs.Prelude.{◌*◌, ◌≤◌, length, IfOk};
+ghost use Rattle.std.specs.Prelude.{◌≡◌, ◌*◌, ◌≤◌, length, IfOk, OnErr};
 
 use edits::Kept;
 use reading::{Line, Reading};
@@ -255,6 +255,7 @@ struct Pass {
     reading: Reading,
 }
 
+// An error is one of reading a line; it leaves all but the line and the buffer.
 fn take_next<R: Read>(
     input: &mut R,
     line: &mut [u32; 128],
@@ -266,7 +267,8 @@ fn take_next<R: Read>(
     pass: Pass,
 ) -> io::Result<Pass>
     requires { pass.reading.end ≤ 65536 }
-    ensures { IfOk result (λ after. after.reading.end ≤ 65536) }
+    ensures ok { IfOk result (λ after. after.reading.end ≤ 65536) }
+    ensures err { OnErr result ((words.new ≡ words.old) × (generations.new ≡ generations.old) × (lists.new ≡ lists.old) × (rules.new ≡ rules.old)) }
 {
     let before = pass.reading;
     let run = pass.run;

@@ -15,7 +15,8 @@ use Rattle.sound.specs.Rules.{PlaceChain}
 use Rattle.sound.specs.Sound.{Linked, Merged, LastTrue}
 use Rattle.places.specs.Places.{Chained}
 use Rattle.places.proofs.PlaceLaws.{same_rect_says}
-use Rattle.places.proofs.RuleLaws.{live_slots, FirstsRight, walk_linked, linked_walk, walk_placed, placed_walk, walk_stored}
+use Rattle.places.specs.RuleLaws.{live_slots, FirstsRight}
+use Rattle.places.proofs.RuleLaws.{walk_linked, linked_walk, walk_placed, placed_walk, walk_stored}
 use Rattle.joins.specs.declared.Placed.{Placed}
 use Rattle.links.specs.Links.{links_at, merged_at}
 use Rattle.links.specs.FirstLaws.{Firsts}

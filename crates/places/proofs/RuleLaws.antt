@@ -10,7 +10,6 @@ use Rattle.sound.specs.View.{Link, none, to, Seen, seen, in_use, Live}
 use Rattle.sound.specs.Rules.{FirstChild, PlaceSlot, PlaceChain}
 use Rattle.sound.specs.Sound.{Linked, LastTrue}
 use Rattle.sound.specs.ViewLaws.{no_link}
-use Rattle.lists.specs.Counts.{count}
 use Rattle.forest.specs.Pigeon.{In, pigeon_all}
 use Rattle.forest.specs.Forest.{Forest, empty, slot, head, slots, Rep, Represents, rep_distinct, shape_live}
 use Rattle.forest.specs.Back.{by_place, in_live, linked}
@@ -18,16 +17,9 @@ use Rattle.forest.specs.Follows.{size, live, kids_of, next_of, size_slots, linke
 use Rattle.forest.specs.Place.{place_table, table_place, slot_table_place, table_slot_place}
 use Rattle.links.specs.TestLaws.{Says, says_as}
 use Rattle.places.specs.Places.{kids_at, next_at, Standing, StoredAt, AtLast, StoredF, Chained}
+use Rattle.places.specs.RuleLaws.{live_slots, FirstsRight}
 use Rattle.places.proofs.PlaceLaws.{standing_ended, fits_placed, fits_stored, placed_fits}
 use Rattle.joins.specs.declared.Placed.{Placed}
-
--- How many slots of the table are live.
-unfoldable pub live_slots : List ℕ → ℕ → ℕ
-live_slots w n = count (λ j. in_use (seen w j).kind) n
-
--- The table of first children names each Container's child without prev.
-abbrev pub FirstsRight : List ℕ → List ℕ → Type 0
-FirstsRight w fs = (i c : ℕ) → Live (seen w) (length fs) i → (seen w i).kind ≡ Container → FirstChild (seen w) (length fs) i c → get_or fs i 0 ≡ c
 
 -- RULE 7 OF A FOREST: it speaks of the last slot of the top chain.
 module _ (get : ℕ → Seen) (n : ℕ) where

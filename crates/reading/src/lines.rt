@@ -1,5 +1,7 @@
 // Lines of decimal numbers on standard input, taken a byte at a time.
-ghost use Rattle.std.specs.Prelude.{◌≤◌, ◌<◌, IfOk};
+ghost use Rattle.std.specs.Prelude.{◌≡◌, ◌≤◌, ◌<◌, IfOk, OnErr};
+ghost use Rattle.std.specs.Io.KnownBytes.{Keeps};
+ghost use Rattle.reading.specs.Inputs.{ReadsOn};
 
 use std::io::{self, Read};
 
@@ -122,10 +124,13 @@ fn cut_off(line: Line) -> Line {
     spoiled(line)
 }
 
-// Reads on where every byte that was read is taken.
+// Reads on where every byte that was read is taken. An error is one read's: there was nothing left to take, and no byte of the
+// input is lost.
 fn filled<R: Read>(input: &mut R, buffer: &mut [u8; 65536], reading: Reading) -> io::Result<Reading>
     requires { reading.end ≤ 65536 }
-    ensures { IfOk result (λ after. after.end ≤ 65536) }
+    ensures ok { IfOk result (λ after. after.end ≤ 65536) }
+    ensures input { ReadsOn (R.remaining input.old) (R.remaining input.new) }
+    ensures err { OnErr result ((reading.end ≤ reading.at) × Keeps (R.remaining input.old) (R.remaining input.new)) }
 {
     if reading.at < reading.end {
         return Ok(reading);
@@ -156,7 +161,7 @@ fn take_byte(numbers: &mut [u32; 128], buffer: &[u8; 65536], reading: Reading) -
     after
 }
 
-// Takes a byte, or sees that none is left.
+// Takes a byte, or sees that none is left. An error is one read's, as in filled, and leaves the numbers.
 fn advanced<R: Read>(
     input: &mut R,
     numbers: &mut [u32; 128],
@@ -164,7 +169,10 @@ fn advanced<R: Read>(
     reading: Reading,
 ) -> io::Result<Reading>
     requires { reading.end ≤ 65536 }
-    ensures { IfOk result (λ after. after.end ≤ 65536) }
+    ensures ok { IfOk result (λ after. after.end ≤ 65536) }
+    ensures input { ReadsOn (R.remaining input.old) (R.remaining input.new) }
+    ensures err { OnErr result ((reading.end ≤ reading.at) × (numbers.new ≡ numbers.old)
+        × Keeps (R.remaining input.old) (R.remaining input.new)) }
 {
     let ready = filled(input, buffer, reading)?;
     if ready.at < ready.end {
@@ -184,7 +192,8 @@ fn is_open(reading: Reading) -> bool {
 }
 
 // Reads the next line, its numbers into numbers. Nothing says that a line ends, so the loop counts its turns down from a
-// number that no run uses up.
+// number that no run uses up. An error is one read's; the numbers that the line had before it are in numbers, and what the
+// input has left goes on behind the bytes that were read.
 pub fn next_line<R: Read>(
     input: &mut R,
     numbers: &mut [u32; 128],
@@ -192,7 +201,8 @@ pub fn next_line<R: Read>(
     reading: Reading,
 ) -> io::Result<Reading>
     requires { reading.end ≤ 65536 }
-    ensures { IfOk result (λ after. after.end ≤ 65536) }
+    ensures ok { IfOk result (λ after. after.end ≤ 65536) }
+    ensures input { ReadsOn (R.remaining input.old) (R.remaining input.new) }
 {
     let mut now = reading;
     now.line = blank();

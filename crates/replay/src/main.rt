@@ -5,7 +5,7 @@
 
 mod take;
 
-ghost use Rattle.std.specs.Prelude.{◌≤◌, IfOk};
+ghost use Rattle.std.specs.Prelude.{◌≡◌, ◌≤◌, IfOk, OnErr};
 
 use reading::{Line, Reading};
 use std::io::{self, Read};
@@ -81,6 +81,7 @@ struct Pass {
     reading: Reading,
 }
 
+// An error is one of reading a line; it leaves all but the line and the buffer.
 fn take_next<R: Read>(
     input: &mut R,
     line: &mut [u32; 128],
@@ -91,7 +92,8 @@ fn take_next<R: Read>(
     pass: Pass,
 ) -> io::Result<Pass>
     requires { pass.reading.end ≤ 65536 }
-    ensures { IfOk result (λ after. after.reading.end ≤ 65536) }
+    ensures ok { IfOk result (λ after. after.reading.end ≤ 65536) }
+    ensures err { OnErr result ((tables.new ≡ tables.old) × (generations.new ≡ generations.old) × (counts.new ≡ counts.old)) }
 {
     let before = pass.reading;
     let run = pass.run;
