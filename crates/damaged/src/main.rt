@@ -255,7 +255,7 @@ struct Pass {
     reading: Reading,
 }
 
-// An error is one of reading a line; it leaves all but the line and the buffer.
+// An error is one of reading a line; of what is lent only the input, the line and the buffer are other than they were.
 fn take_next<R: Read>(
     input: &mut R,
     line: &mut [u32; 128],

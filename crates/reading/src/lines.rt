@@ -1,4 +1,4 @@
-// Lines of decimal numbers on standard input, taken a byte at a time.
+// Lines of decimal numbers of an input, taken a byte at a time.
 ghost use Rattle.std.specs.Prelude.{◌≡◌, ◌≤◌, ◌<◌, IfOk, OnErr};
 ghost use Rattle.std.specs.Io.KnownBytes.{Keeps};
 ghost use Rattle.reading.specs.Inputs.{ReadsOn};
@@ -192,8 +192,8 @@ fn is_open(reading: Reading) -> bool {
 }
 
 // Reads the next line, its numbers into numbers. Nothing says that a line ends, so the loop counts its turns down from a
-// number that no run uses up. An error is one read's; the numbers that the line had before it are in numbers, and what the
-// input has left goes on behind the bytes that were read.
+// number that no run uses up. An error is one read's; the numbers that the line had before it are in numbers, what the input has
+// left goes on behind the bytes that were read, and the buffer may hold others than the reading before it tells of.
 pub fn next_line<R: Read>(
     input: &mut R,
     numbers: &mut [u32; 128],
