@@ -1,7 +1,8 @@
 -- Forgetting a slot: how the buckets are looked at, and what is then different.
 -- Assumes nothing.
-use Rattle.std.specs.Prelude.{◌≡◌, refl, List, [], ◌∷◌, ◌⊎◌, ℕ, ◌+◌, ◌-◌, ◌<◌, length, get_or}
-use Rattle.std.proofs.Common.{sym, ◌∙◌, inl, inr, ⊎_elim, arith, ne_eqb}
+use Rattle.std.specs.Prelude.{◌≡◌, refl, List, [], ◌∷◌, Option, Some, None, ◌⊎◌, ℕ, ◌+◌, ◌-◌, ◌<◌, ◌≤◌, length, drop, get_or}
+use Rattle.std.proofs.Common.{sym, ◌∙◌, inl, inr, ⊎_elim, arith, ne_eqb, add-one, drop-cons}
+use Rattle.std.proofs.lemmas.List.{drop_all}
 use Rattle.geometry.specs.declared.Bucket.{Bucket}
 use Rattle.geometry.specs.declared.Bucket.TheVariants.{Small, Medium, Large}
 use Rattle.lists.specs.Lists.{Bag, removed, first_of, Each}
@@ -12,25 +13,22 @@ use Rattle.lists.specs.FirstLaws.{first_holds, first_absent}
 use Rattle.lists.specs.ListLaws.{length_removed, each_removed}
 use Rattle.lists.specs.OccurrenceLaws.{removed_one, removed_others}
 use Rattle.buckets.specs.FreeListLaws.{with_list_elim, removed_from_within}
-use Rattle.lists.specs.declared.Found.{Found}
-use Rattle.lists.specs.declared.Found.TheVariants.{At, Nothing}
 use Rattle.buckets.specs.declared.Entry.{Entry}
-use Rattle.buckets.specs.declared.Entry.TheVariants.{In, Nowhere}
 
--- A bucket is looked at, with what was found there: the entry is there, or the next buckets are looked at.
-module _ (v : ℕ) (b : Bucket) (bs : List Bucket) (l : Lists) (f : Found) (e : f ≡ first_in v b l) where
-  pub entry_here : (k : ℕ) → f ≡ At k → In b k ≡ entry_in v (b ∷ bs) l
+-- The buckets from place i on are looked at: the entry is in the first of them, or the next ones are looked at.
+module _ (v : ℕ) (bs : List Bucket) (l : Lists) (i : ℕ) (h : i < length bs) (f : Option ℕ) (e : f ≡ first_in v (get_or bs i Small) l) where
+  pub entry_here : (k : ℕ) → f ≡ Some k → Some (record { bucket = get_or bs i Small; place = k }) ≡ entry_in v (drop i bs) l
   unfolding entry_in
-  entry_here k q = rw (← e, q)
+  entry_here k q = rw (drop-cons bs i Small h, ← e, q)
 
-  pub entry_on : (r : Entry) → f ≡ Nothing → r ≡ entry_in v bs l → r ≡ entry_in v (b ∷ bs) l
+  pub entry_on : f ≡ None → entry_in v (drop (i + 1) bs) l ≡ entry_in v (drop i bs) l
   unfolding entry_in
-  entry_on r q h = rw (← e, q) h
+  entry_on q = rw (drop-cons bs i Small h, ← e, q, add-one)
 
 -- With no bucket left there is none.
-pub entry_none : (v : ℕ) (l : Lists) → Nowhere ≡ entry_in v [] l
+pub entry_none : (v : ℕ) (bs : List Bucket) (l : Lists) (i : ℕ) → length bs ≤ i → None ≡ entry_in v (drop i bs) l
 unfolding entry_in
-entry_none v l = refl
+entry_none v bs l i h = rw (drop_all i bs h)
 
 -- What forgetting v makes of the lists: v stands in none and nothing changes, or one of its entries is taken out.
 pub data Forgets (v : ℕ) (l : Lists) : Lists → Type 0 where
@@ -38,7 +36,7 @@ pub data Forgets (v : ℕ) (l : Lists) : Lists → Type 0 where
   takes : (b : Bucket) (k : ℕ) → k < (list_of b l).len → get_or (list_of b l).table k 0 ≡ v → Forgets v l (removed_from b k l)
 
 -- A list in which nothing is found has no entry of v.
-none_found : (v : ℕ) (b : Bag) → first_of b.table v 0 b.len ≡ Nothing → occurrences v b ≡ 0
+none_found : (v : ℕ) (b : Bag) → first_of b.table v 0 b.len ≡ None → occurrences v b ≡ 0
 none_found v b e =
     count_none (holds b v) b.len
     (λ j l. ne_eqb (get_or b.table j 0) v (first_absent b.table v 0 b.len e j (omega arith) (omega arith)))
@@ -54,41 +52,31 @@ unfolding entry_in
 forgets_in v l [] h = nowhere (λ b. ⊎_elim (λ e. e) (λ n. absurd n) (h b))
 forgets_in v l (b ∷ bs) h = go (first_in v b l) refl (forgets_in v l bs)
   where
-    go : (f : Found) → first_in v b l ≡ f
+    go : (f : Option ℕ) → first_in v b l ≡ f
         → (((c : Bucket) → (occurrences v (list_of c l) ≡ 0) ⊎ Among c bs) → Forgets v l (taken_out (entry_in v bs l) l))
         → Forgets v l (taken_out (entry_or f b (entry_in v bs l)) l)
-    go (At k) e r =
+    go (Some k) e r =
         let g = first_holds (list_of b l).table v 0 (list_of b l).len k e in
         takes b k (omega (arith, g.0)) g.1
-    go Nothing e r = r (λ c. ⊎_elim (λ z. inl z) (⊎_elim (λ q. inl (rw q (none_found v (list_of b l) e))) (λ i. inr i)) (h c))
+    go None e r = r (λ c. ⊎_elim (λ z. inl z) (⊎_elim (λ q. inl (rw q (none_found v (list_of b l) e))) (λ i. inr i)) (h c))
 
 -- An entry found is at a filled place.
-entry_in_lem : (v : ℕ) (l : Lists) (bs : List Bucket) (b : Bucket) (k : ℕ) → In b k ≡ entry_in v bs l → k < (list_of b l).len
+entry_in_lem : (v : ℕ) (l : Lists) (bs : List Bucket) (x : Entry) → Some x ≡ entry_in v bs l → x.place < (list_of x.bucket l).len
 unfolding entry_in
-entry_in_lem v l [] b k = λ e. absurd (let z : ◌≡◌ {A = ℕ} 0 1 = cc in omega arith)
-entry_in_lem v l (c ∷ bs) b k = go (first_in v c l) refl (entry_in_lem v l bs b k)
+entry_in_lem v l [] x = λ e. absurd (let z : ◌≡◌ {A = ℕ} 0 1 = cc in omega arith)
+entry_in_lem v l (c ∷ bs) x = go (first_in v c l) refl (entry_in_lem v l bs x)
   where
-    go : (f : Found) → first_in v c l ≡ f → (In b k ≡ entry_in v bs l → k < (list_of b l).len) → In b k ≡ entry_or f c (entry_in v bs l) → k < (list_of b l).len
-    go (At j) e r q =
+    go : (f : Option ℕ) → first_in v c l ≡ f → (Some x ≡ entry_in v bs l → x.place < (list_of x.bucket l).len)
+        → Some x ≡ entry_or f c (entry_in v bs l) → x.place < (list_of x.bucket l).len
+    go (Some j) e r q =
         let g = first_holds (list_of c l).table v 0 (list_of c l).len j e in
-        let x : b ≡ c = cc in
-        let y : k ≡ j = cc in
-        rw (x, y) (omega (arith, g.0))
-    go Nothing e r q = r q
+        let z : x ≡ record { bucket = c; place = j } = cc in
+        rw z (omega (arith, g.0))
+    go None e r q = r q
 
-pub entry_within : (v : ℕ) (l : Lists) (f : Entry) (b : Bucket) (k : ℕ) → f ≡ entry_of v l → f ≡ In b k → k < (list_of b l).len
+pub entry_within : (v : ℕ) (l : Lists) (f : Option Entry) (x : Entry) → f ≡ entry_of v l → f ≡ Some x → x.place < (list_of x.bucket l).len
 unfolding entry_of
-entry_within v l f b k e q = entry_in_lem v l (Small ∷ Medium ∷ Large ∷ []) b k (sym q ∙ e)
-
--- With what was found, the entry is taken out, or nothing changes.
-module _ (v : ℕ) (l m : Lists) (f : Entry) (e : f ≡ entry_of v l) where
-  pub forget_entry : (b : Bucket) (k : ℕ) → f ≡ In b k → m ≡ removed_from b k l → m ≡ forgotten v l
-  unfolding forgotten
-  forget_entry b k q r = rw (← e, q) r
-
-  pub forget_nothing : f ≡ Nowhere → m ≡ l → m ≡ forgotten v l
-  unfolding forgotten
-  forget_nothing q r = rw (← e, q) r
+entry_within v l f x e q = entry_in_lem v l (Small ∷ Medium ∷ Large ∷ []) x (sym q ∙ e)
 
 every : (b : Bucket) → Among b (Small ∷ Medium ∷ Large ∷ [])
 every Small = inl refl
@@ -149,3 +137,13 @@ module _ (v : ℕ) (l : Lists) (w : Within l) where
   each_forgotten P e =
       forgotten_elim (λ (m : Lists). (b : Bucket) → Each P (list_of b m)) v l (λ _. e)
       (λ c k h q. with_list_elim (λ _. Each P) c (removed (list_of c l) k) l (each_removed P (list_of c l) k h (w c) (e c)) e)
+
+-- With what was found, the entry is taken out, or nothing changes.
+module _ (v : ℕ) (l m : Lists) (f : Option Entry) (e : f ≡ entry_of v l) where
+  pub forget_entry : (x : Entry) → f ≡ Some x → m ≡ removed_from x.bucket x.place l → m ≡ forgotten v l
+  unfolding forgotten
+  forget_entry x q r = rw (← e, q) r
+
+  pub forget_nothing : f ≡ None → m ≡ l → m ≡ forgotten v l
+  unfolding forgotten
+  forget_nothing q r = rw (← e, q) r

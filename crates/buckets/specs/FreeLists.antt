@@ -1,15 +1,12 @@
 -- The three free lists: each step on the list of a bucket.
 -- Assumes nothing.
-use Rattle.std.specs.Prelude.{List, [], ◌∷◌, ℕ, ◌≤◌, length}
+use Rattle.std.specs.Prelude.{List, [], ◌∷◌, Option, Some, None, ℕ, ◌≤◌, length}
 use Rattle.geometry.specs.declared.Bucket.{Bucket}
 use Rattle.geometry.specs.declared.Bucket.TheVariants.{Small, Medium, Large}
 use Rattle.lists.specs.Lists.{Bag, bag, removed, first_of}
 use Rattle.pushes.specs.Pushes.{pushed}
 use Rattle.buckets.specs.declared.Lengths.{Lengths}
-use Rattle.lists.specs.declared.Found.{Found}
-use Rattle.lists.specs.declared.Found.TheVariants.{At, Nothing}
 use Rattle.buckets.specs.declared.Entry.{Entry}
-use Rattle.buckets.specs.declared.Entry.TheVariants.{In, Nowhere}
 
 pub record Lists : Type 0 where
   pub small : Bag
@@ -43,27 +40,27 @@ abbrev pub removed_from : Bucket → ℕ → Lists → Lists
 removed_from b k l = with_list b (removed (list_of b l) k) l
 
 -- The first place of a bucket's list that holds v.
-abbrev pub first_in : ℕ → Bucket → Lists → Found
+abbrev pub first_in : ℕ → Bucket → Lists → Option ℕ
 first_in v b l = first_of (list_of b l).table v 0 (list_of b l).len
 
 -- The entry found, else another one.
-abbrev pub entry_or : Found → Bucket → Entry → Entry
-entry_or (At k) b other = In b k
-entry_or Nothing b other = other
+abbrev pub entry_or : Option ℕ → Bucket → Option Entry → Option Entry
+entry_or (Some k) b other = Some (record { bucket = b; place = k })
+entry_or None b other = other
 
 -- The first entry of v, the buckets looked at in order.
-unfoldable pub entry_in : ℕ → List Bucket → Lists → Entry
-entry_in v [] l = Nowhere
+unfoldable pub entry_in : ℕ → List Bucket → Lists → Option Entry
+entry_in v [] l = None
 entry_in v (b ∷ bs) l = entry_or (first_in v b l) b (entry_in v bs l)
 
 -- First occurrence, buckets small to large,
-unfoldable pub entry_of : ℕ → Lists → Entry
+unfoldable pub entry_of : ℕ → Lists → Option Entry
 entry_of v l = entry_in v (Small ∷ Medium ∷ Large ∷ []) l
 
 -- An entry taken out.
-abbrev pub taken_out : Entry → Lists → Lists
-taken_out (In b k) l = removed_from b k l
-taken_out Nowhere l = l
+abbrev pub taken_out : Option Entry → Lists → Lists
+taken_out (Some e) l = removed_from e.bucket e.place l
+taken_out None l = l
 
 -- swap-removed.
 unfoldable pub forgotten : ℕ → Lists → Lists

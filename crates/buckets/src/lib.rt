@@ -6,10 +6,9 @@ ghost use Rattle.pushes.specs.Pushes.{Pushable};
 ghost use Rattle.buckets.specs.FreeLists.{lists, list_of, pushed_to, removed_from, first_in, entry_of, forgotten, Within};
 
 use geometry::Bucket;
-use lists::Found;
 
 // How many places of each bucket's table are filled.
-#[derive(Clone, Copy)]
+#[derive(Clone, Copy, PartialEq, Eq)]
 pub struct Lengths {
     pub small: usize,
     pub medium: usize,
@@ -91,7 +90,7 @@ fn first_in(
     lengths: Lengths,
     bucket: Bucket,
     v: u32,
-) -> Found
+) -> Option<usize>
     requires { Within (lists lengths small.now medium.now large.now) }
     ensures { result ≡ first_in v bucket (lists lengths small.now medium.now large.now) }
 {
@@ -104,29 +103,27 @@ fn first_in(
 
 // An entry of a slot: its bucket, and its place in that bucket's list.
 #[derive(Clone, Copy)]
-pub enum Entry {
-    In(Bucket, usize),
-    Nowhere,
+struct Entry {
+    bucket: Bucket,
+    place: usize,
 }
 
 // The first entry of v, the buckets looked at from small to large.
-fn entry_of(small: &[u32], medium: &[u32], large: &[u32], lengths: Lengths, v: u32) -> Entry
+#[tactic(auto, unfolding(crate::specs::FreeLists::entry_of))]
+fn entry_of(small: &[u32], medium: &[u32], large: &[u32], lengths: Lengths, v: u32) -> Option<Entry>
     requires { Within (lists lengths small.now medium.now large.now) }
     ensures { result ≡ entry_of v (lists lengths small.now medium.now large.now) }
 {
-    if let Found::At(k) = first_in(small, medium, large, lengths, Bucket::Small, v) {
-        return Entry::In(Bucket::Small, k);
+    for bucket in [Bucket::Small, Bucket::Medium, Bucket::Large] {
+        if let Some(place) = first_in(small, medium, large, lengths, bucket, v) {
+            return Some(Entry { bucket, place });
+        }
     }
-    if let Found::At(k) = first_in(small, medium, large, lengths, Bucket::Medium, v) {
-        return Entry::In(Bucket::Medium, k);
-    }
-    if let Found::At(k) = first_in(small, medium, large, lengths, Bucket::Large, v) {
-        return Entry::In(Bucket::Large, k);
-    }
-    Entry::Nowhere
+    None
 }
 
 // Takes the first occurrence of v out, the buckets looked at from small to large.
+#[tactic(auto, unfolding(crate::specs::FreeLists::forgotten))]
 pub fn forget(
     small: &mut [u32],
     medium: &mut [u32],
@@ -138,7 +135,7 @@ pub fn forget(
     ensures { lists result small.new medium.new large.new ≡ forgotten v (lists lengths small.old medium.old large.old) }
 {
     match entry_of(small, medium, large, lengths, v) {
-        Entry::In(bucket, k) => remove_from(small, medium, large, lengths, bucket, k),
-        Entry::Nowhere => lengths,
+        Some(entry) => remove_from(small, medium, large, lengths, entry.bucket, entry.place),
+        None => lengths,
     }
 }

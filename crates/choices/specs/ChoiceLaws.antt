@@ -1,6 +1,6 @@
 -- The laws of the search of one bucket: what each of its calls ensures makes the whole, and what it leaves.
 -- Assumes nothing.
-use Rattle.std.specs.Prelude.{◌≡◌, List, ℕ}
+use Rattle.std.specs.Prelude.{◌≡◌, List, Option, ℕ}
 use Rattle.geometry.specs.declared.Bucket.{Bucket}
 use Rattle.lists.specs.Lists.{Bag}
 use Rattle.buckets.specs.FreeLists.{Lists, list_of, with_list}
@@ -20,7 +20,7 @@ pub scan_best : (w : List ℕ) (q : Query) (l : Bag) (o : Scanned) → o ≡ sca
 scan_best w q l o e r = rw e (scanning_best w q (scan_all w q l.table l.len) (scan_scans w q l.table l.len r.within))
 
 -- The scan of a bucket's list, by the scan and the answer read off it.
-pub bucket_scanned : (w : List ℕ) (q : Query) (b : Bucket) (l : Bag) (o : Scanned) (c : Chosen) → o ≡ scan_all w q l.table l.len
+pub bucket_scanned : (w : List ℕ) (q : Query) (b : Bucket) (l : Bag) (o : Scanned) (c : Option Chosen) → o ≡ scan_all w q l.table l.len
     → c ≡ chosen_of b o.scan.best o.scan.place o.table → scan_answer c (list_in o) ≡ scan_bucket w q b l
 unfolding scan_bucket
 bucket_scanned w q b l o c e f = rw (f, e)

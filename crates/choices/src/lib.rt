@@ -14,44 +14,49 @@ use slots::AllocIndex;
 
 // The slot that was chosen, with its bucket and its place in that bucket's list.
 #[derive(Clone, Copy)]
-pub enum Chosen {
-    At(AllocIndex, Bucket, usize),
-    Nothing,
+pub struct Chosen {
+    pub slot: AllocIndex,
+    pub bucket: Bucket,
+    pub place: usize,
 }
 
 // What a search answers, with the lengths of the lists as it left them. The chosen entry is still in its list.
 #[derive(Clone, Copy)]
 pub struct Search {
-    pub chosen: Chosen,
+    pub chosen: Option<Chosen>,
     pub lengths: Lengths,
 }
 
 // The entry at the best candidate's place, as the answer.
-fn chosen_of(list: &[u32], best: Best, place: usize, bucket: Bucket) -> Chosen
+fn chosen_of(list: &[u32], best: Best, place: usize, bucket: Bucket) -> Option<Chosen>
     requires { BestWithin best place list.now }
     ensures { result ≡ chosen_of bucket best place list.now }
 {
     match best {
-        Best::Found => Chosen::At(AllocIndex(list[place]), bucket, place),
-        Best::Nothing => Chosen::Nothing,
+        Best::Found => Some(Chosen {
+            slot: AllocIndex(list[place]),
+            bucket,
+            place,
+        }),
+        Best::Nothing => None,
     }
 }
 
 // What the scan of one list answers, and the list's length after it.
 #[derive(Clone, Copy)]
 struct Answer {
-    chosen: Chosen,
+    chosen: Option<Chosen>,
     len: usize,
 }
 
+#[tactic(auto, unfolding(crate::specs::Choices::scan_bucket))]
 fn scan_bucket(words: &[u32], list: &mut [u32], len: usize, bucket: Bucket, q: Query) -> Answer
     requires { Ready words.now (bag list.old len) }
     ensures { scan_answer result.chosen (bag list.new result.len) ≡ scan_bucket words.now q bucket (bag list.old len) }
 {
     let s = fits::scan_list(words, list, len, q);
-    let best = s.best;
     Answer {
-        chosen: chosen_of(list, best, s.place, bucket),
+        chosen: chosen_of(list, s.best, s.place, bucket),
         len: s.len,
     }
 }
@@ -107,27 +112,19 @@ pub fn higher(bucket: Bucket) -> Bucket
 {
     match bucket {
         Bucket::Small => Bucket::Medium,
-        Bucket::Medium => Bucket::Large,
-        Bucket::Large => Bucket::Large,
+        Bucket::Medium | Bucket::Large => Bucket::Large,
     }
 }
 
 // Whether the search ends here: a candidate was found, or no bucket is above.
-pub fn is_settled(chosen: Chosen, bucket: Bucket) -> bool
+pub fn is_settled(chosen: Option<Chosen>, bucket: Bucket) -> bool
     ensures { result ≡ settled chosen bucket }
 {
-    match chosen {
-        Chosen::At(_, _, _) => true,
-        Chosen::Nothing => is_large(bucket),
-    }
+    chosen.is_some() || is_large(bucket)
 }
 
 pub fn is_large(bucket: Bucket) -> bool
     ensures { result ≡ is_large bucket }
 {
-    match bucket {
-        Bucket::Small => false,
-        Bucket::Medium => false,
-        Bucket::Large => true,
-    }
+    bucket == Bucket::Large
 }

@@ -2,34 +2,21 @@
 #![tactic(auto)]
 
 ghost use Rattle.std.specs.Prelude.{◌≡◌, ◌*◌, ◌≤◌, length};
-ghost use Rattle.table.specs.Table.{HasSlot};
-ghost use Rattle.steps.specs.Spares.{of_kind, count_kind, unused_below, spare_slots};
+ghost use Rattle.steps.specs.Spares.{count_kind, unused_below, spare_slots};
 
 use slots::{AllocIndex, NodeKind};
 
-// 1 where slot i is of this kind, else 0.
-fn of_kind(words: &[u32], kind: NodeKind, i: AllocIndex) -> u32
-    requires { HasSlot words.now i }
-    ensures { (result ≡ of_kind words.now kind i.0) × (result ≤ 1) }
-{
-    let node = table::node_at(words, i);
-    let own = node.kind;
-    if slots::same_kind(own, kind) {
-        return 1;
-    }
-    0
-}
-
 // How many of the first n slots are of this kind.
+#[tactic(auto, using(steps::specs::SpareLaws::count_more), unfolding(steps::specs::Spares::count_kind, steps::specs::Spares::of_kind))]
 pub fn count_kind(words: &[u32], kind: NodeKind, n: u32) -> u32
     requires { n * 8 ≤ length words.now }
     ensures { (result ≡ count_kind words.now kind n) × (result ≤ n) }
 {
     let mut count = 0;
-    let mut i = 0;
-    while i < n {
-        count += of_kind(words, kind, AllocIndex(i));
-        i += 1;
+    for i in 0..n {
+        if table::node_at(words, AllocIndex(i)).kind == kind {
+            count += 1;
+        }
     }
     count
 }

@@ -10,32 +10,33 @@ use geometry::{Orientation, Rectangle};
 const MOST: u64 = 2147483647;
 
 // The area by which the cut compares its two candidates.
+#[tactic(auto, unfolding(crate::specs::Cuts::area_compared, geometry::specs::Choice::lesser))]
 fn area_compared(w: u32, h: u32) -> u64
     ensures { result ≡ area_compared w h }
 {
-    geometry::lesser((w as u64) * (h as u64), MOST)
+    (u64::from(w) * u64::from(h)).min(MOST)
 }
 
 // Whether the request has exactly the size of the rectangle.
+#[tactic(auto, unfolding(crate::specs::Cuts::exact_fit))]
 fn is_exact(r: Rectangle, w: u32, h: u32) -> bool
     requires { FitsIn r w h }
     ensures { result ≡ exact_fit r w h }
 {
-    if r.x1 - r.x0 == w {
-        return r.y1 - r.y0 == h;
-    }
-    false
+    r.x1 - r.x0 == w && r.y1 - r.y0 == h
 }
 
 // Horizontal if the candidate to the right has the greater area, else Vertical.
+#[tactic(auto, unfolding(crate::specs::Cuts::cut_way))]
 fn cut_way(r: Rectangle, w: u32, h: u32) -> Orientation
     requires { FitsIn r w h }
     ensures { result ≡ cut_way r w h }
 {
     if area_compared(r.x1 - r.x0 - w, h) > area_compared(w, r.y1 - r.y0 - h) {
-        return Orientation::Horizontal;
+        Orientation::Horizontal
+    } else {
+        Orientation::Vertical
     }
-    Orientation::Vertical
 }
 
 // What the cut leaves past the request: the full-height strip to the right, or the full-width strip below.
@@ -89,6 +90,7 @@ pub struct Cut {
 }
 
 // The cut of a chosen rectangle for a request w by h at its least corner.
+#[tactic(auto, unfolding(crate::specs::Cuts::cut_of))]
 pub fn guillotine_rect(chosen: Rectangle, w: u32, h: u32, kept: Orientation) -> Cut
     requires { FitsIn chosen w h }
     ensures { result ≡ cut_of chosen w h kept }

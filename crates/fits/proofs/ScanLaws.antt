@@ -113,22 +113,6 @@ module _ (s : Scan) (r : Rectangle) (q : Query) (n : ℕ) (e : n ≡ shifted_sco
     pub unbeaten_passed : beats s.score n q.worst ≡ false → passed s ≡ weighed s r q
     unbeaten_passed t = rw (weighs, t)
 
--- The corners of a Free entry are in order.
-pub entry_corners : (w : List ℕ) (x : ℕ) (n : Node) → n ≡ node_at w (slot x) → Lookable w x → same_kind n.kind Free ≡ true
-    → (n.rect.x0 ≤ n.rect.x1) × (n.rect.y0 ≤ n.rect.y1)
-entry_corners w x n en l f = let e = same_kind_equal _ _ (rw en at f) in (rw en (l.wide e), rw en (l.tall e))
-
--- One look, by what its calls ensure: of the entry's node, and of the weighing or the removal.
-module _ (w : List ℕ) (q : Query) (o : Scanned) (n : Node) (en : n ≡ node_at w (slot (entry_at o))) where
-  pub look_free : (s : Scan) → same_kind n.kind Free ≡ true → s ≡ weighed o.scan n.rect q → scanned s o.table ≡ look w q o
-  unfolding look
-  look_free s f e = rw (← en, f, e)
-
-  pub look_dead : (b : Bag) → same_kind n.kind Free ≡ false → b ≡ removed (list_in o) o.scan.at
-      → scanned (record { len = b.len; at = o.scan.at; best = o.scan.best; place = o.scan.place; score = o.scan.score }) b.table ≡ look w q o
-  unfolding look
-  look_dead b f e = rw (← en, f, e)
-
 -- A thinned list is as ready to be scanned as it was.
 pub ready_thinned : {w : List ℕ} {l m : Bag} → Thinned w l m → Ready w l → Ready w m
 ready_thinned {w} t r = record { within = omega (arith, t.table); entries = each_thinned (Lookable w) t r.entries }
@@ -219,3 +203,19 @@ pub looking_thins : (w : List ℕ) (q : Query) (k : ℕ) (o : Scanned) → o.sca
 looking_thins w q k o b =
     looking_keeps w q (λ (p : Scanned). Thinned w (list_in o) (list_in p))
     (λ p h t. thinned_twice t (look_thins w q p (look w q p) h refl (omega (arith, t.table, t.shorter)))) k o thinned_itself
+
+-- The corners of a Free entry are in order.
+pub entry_corners : (w : List ℕ) (x : ℕ) (n : Node) → n ≡ node_at w (slot x) → Lookable w x → same_kind n.kind Free ≡ true
+    → (n.rect.x0 ≤ n.rect.x1) × (n.rect.y0 ≤ n.rect.y1)
+entry_corners w x n en l f = let e = same_kind_equal _ _ (rw en at f) in (rw en (l.wide e), rw en (l.tall e))
+
+-- One look, by what its calls ensure: of the entry's node, and of the weighing or the removal.
+module _ (w : List ℕ) (q : Query) (o : Scanned) (n : Node) (en : n ≡ node_at w (slot (entry_at o))) where
+  pub look_free : (s : Scan) → same_kind n.kind Free ≡ true → s ≡ weighed o.scan n.rect q → scanned s o.table ≡ look w q o
+  unfolding look
+  look_free s f e = rw (← en, f, e)
+
+  pub look_dead : (b : Bag) → same_kind n.kind Free ≡ false → b ≡ removed (list_in o) o.scan.at
+      → scanned (record { len = b.len; at = o.scan.at; best = o.scan.best; place = o.scan.place; score = o.scan.score }) b.table ≡ look w q o
+  unfolding look
+  look_dead b f e = rw (← en, f, e)

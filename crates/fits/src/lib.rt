@@ -37,29 +37,26 @@ pub struct Scan {
 const SHIFT: u64 = 4294967296;
 
 // The score, shifted up. It stays below the shift where a side is too short, so that one test asks of both sides.
+#[tactic(auto, unfolding(crate::specs::Scans::shifted_score, geometry::specs::Choice::lesser), using(geometry::specs::Choice::lesser_first))]
 fn shifted_score(r: Rectangle, q: Query) -> u64
     requires { (r.x0 ≤ r.x1) × (r.y0 ≤ r.y1) }
     ensures { (result ≡ shifted_score r q) × (result < 8589934592) }
 {
-    let wide = (r.x1 - r.x0) as u64;
-    let tall = (r.y1 - r.y0) as u64;
-    geometry::lesser(
-        wide + SHIFT - (q.width as u64),
-        tall + SHIFT - (q.height as u64),
-    )
+    let wide = u64::from(r.x1 - r.x0) + SHIFT - u64::from(q.width);
+    let tall = u64::from(r.y1 - r.y0) + SHIFT - u64::from(q.height);
+    wide.min(tall)
 }
 
 // The score of a scan with no candidate yet, which any candidate beats.
+#[tactic(auto, unfolding(crate::specs::Scans::opening))]
 fn opening(worst: bool) -> u64
     ensures { result ≡ opening worst }
 {
-    if worst {
-        return 0;
-    }
-    SHIFT
+    if worst { 0 } else { SHIFT }
 }
 
 // Whether a shifted score fits and beats the best so far. Of equals the first stays.
+#[tactic(auto, unfolding(crate::specs::Scans::beats))]
 fn beats(score: u64, shifted: u64, worst: bool) -> bool
     ensures { result ≡ beats score shifted worst }
 {
@@ -67,81 +64,61 @@ fn beats(score: u64, shifted: u64, worst: bool) -> bool
         return false;
     }
     let new = shifted - SHIFT;
-    if worst {
-        return score < new;
-    }
-    new < score
+    if worst { score < new } else { new < score }
 }
 
 // What the entry of a Free rectangle does to the scan. A fit that is exact on one axis ends it.
+#[tactic(auto, using(crate::proofs::ScanLaws::beats_enough, crate::proofs::ScanLaws::exact_ends, crate::proofs::ScanLaws::beaten_kept, crate::proofs::ScanLaws::unbeaten_passed))]
 fn weigh(s: Scan, r: Rectangle, q: Query) -> Scan
     requires { (r.x0 ≤ r.x1) × (r.y0 ≤ r.y1) × (s.at < s.len) × Open s q }
     ensures { result ≡ weighed s r q }
 {
-    let at = s.at;
-    let next = at + 1;
-    let len = s.len;
     let shifted = shifted_score(r, q);
     if shifted == SHIFT {
         return Scan {
-            len: len,
-            at: len,
+            at: s.len,
             best: Best::Found,
-            place: at,
+            place: s.at,
             score: 0,
+            ..s
         };
     }
     if beats(s.score, shifted, q.worst) {
         return Scan {
-            len: len,
-            at: next,
+            at: s.at + 1,
             best: Best::Found,
-            place: at,
+            place: s.at,
             score: shifted - SHIFT,
+            ..s
         };
     }
-    let best = s.best;
-    Scan {
-        len: len,
-        at: next,
-        best: best,
-        place: s.place,
-        score: s.score,
-    }
+    Scan { at: s.at + 1, ..s }
 }
 
 // Looks at the entry at the scan's place. One whose slot isn't Free is swap-removed, and the place is looked at again.
+#[tactic(auto, unfolding(crate::specs::Scans::look))]
 fn look_at(words: &[u32], list: &mut [u32], s: Scan, q: Query) -> Scan
     requires { Ready words.now (bag list.old s.len) × (s.at < s.len) × Open s q }
     ensures { scanned result list.new ≡ look words.now q (scanned s list.old) }
 {
-    let at = s.at;
-    let len = s.len;
-    let id = AllocIndex(list[at]);
-    let node = table::node_at(words, id);
-    let kind = node.kind;
-    if slots::same_kind(kind, NodeKind::Free) {
-        let rect = node.rect;
-        return weigh(s, rect, q);
+    let node = table::node_at(words, AllocIndex(list[s.at]));
+    if node.kind == NodeKind::Free {
+        return weigh(s, node.rect, q);
     }
-    let best = s.best;
-    let less = lists::swap_remove(list, len, at);
     Scan {
-        len: less,
-        at: at,
-        best: best,
-        place: s.place,
-        score: s.score,
+        len: lists::swap_remove(list, s.len, s.at),
+        ..s
     }
 }
 
 // Scans one list.
+#[tactic(auto, using(crate::proofs::ScanLaws::looking_past))]
 pub fn scan_list(words: &[u32], list: &mut [u32], len: usize, q: Query) -> Scan
     requires { Ready words.now (bag list.old len) }
     ensures { scanned result list.new ≡ scan_all words.now q list.old len }
 {
     let mut s = Scan {
-        len: len,
+        len,
         at: 0,
         best: Best::Nothing,
         place: 0,

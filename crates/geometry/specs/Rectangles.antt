@@ -1,6 +1,7 @@
 -- Rectangles and orientations.
 -- Assumes nothing.
 use Rattle.std.specs.Prelude.{Bool, ◌||◌, ℕ, ◌-◌, leb}
+use Rattle.geometry.specs.declared.Extent.{Extent}
 use Rattle.geometry.specs.declared.Rectangle.{Rectangle}
 use Rattle.geometry.specs.declared.Orientation.{Orientation}
 use Rattle.geometry.specs.declared.Orientation.TheVariants.{Vertical, Horizontal}
@@ -14,7 +15,11 @@ flip Horizontal = Vertical
 abbrev pub no_rect : Rectangle
 no_rect = record { x0 = 0; y0 = 0; x1 = 0; y1 = 0 }
 
--- Its sides, W and H.
+-- The rectangle of an extent from the origin.
+abbrev pub rect_of : Extent → Rectangle
+rect_of e = record { x0 = 0; y0 = 0; x1 = e.width; y1 = e.height }
+
+-- The sides of a rectangle, W and H.
 abbrev pub width_of : Rectangle → ℕ
 width_of r = r.x1 - r.x0
 

@@ -20,13 +20,14 @@ largest_side = 2147483647
 unfoldable pub sheet_side : ℕ → Bool
 sheet_side side = not (eqb side 0) && leb side largest_side
 
--- A setup is valid: sheet sides in range, alignment of two positive sides, large threshold ≥ small one.
+-- Options are valid: alignment of two positive sides, large threshold ≥ small one.
+abbrev pub valid_options : AllocatorOptions → Bool
+valid_options options =
+    not (eqb (natural options.alignment.width) 0) && (not (eqb (natural options.alignment.height) 0) && le_z options.small options.large)
+
+-- A setup is valid: sheet sides in range, and valid options.
 unfoldable pub valid_setup : Size → AllocatorOptions → Bool
-valid_setup sheet options =
-    sheet_side (natural sheet.width) &&
-    (sheet_side (natural sheet.height) &&
-    (not (eqb (natural options.alignment.width) 0) &&
-    (not (eqb (natural options.alignment.height) 0) && le_z options.small options.large)))
+valid_setup sheet options = sheet_side (natural sheet.width) && (sheet_side (natural sheet.height) && valid_options options)
 
 -- Both sides as numbers to reckon with.
 abbrev pub extent_of : Size → Extent

@@ -1,6 +1,6 @@
 -- The test of the lent lengths says yes exactly where they are in range.
 -- Assumes nothing.
-use Rattle.std.specs.Prelude.{◌≡◌, refl, Bool, true, false, ◌&&◌, not, ℕ, ◌*◌, ◌≤◌, ◌<◌, eqb, leb}
+use Rattle.std.specs.Prelude.{◌≡◌, true, not, ℕ, ◌*◌, eqb, leb}
 use Rattle.std.proofs.Common.{arith, eqb-true, leb-true, le-leb, eq-eqb, ne_eqb}
 use Rattle.std.proofs.lemmas.Bool.{eqb-false, not-true}
 use Rattle.geometry.specs.TestLaws.{and_true_each}

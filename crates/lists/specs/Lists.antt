@@ -1,12 +1,10 @@
 -- A list in a lent table: append, swap-remove and first occurrence.
 -- Assumes nothing.
-use Rattle.std.specs.Prelude.{Bool, false, ◌||◌, List, ℕ, zero, suc, ◌+◌, ◌-◌, ◌≤◌, ◌<◌, length, get_or, set, eqb}
+use Rattle.std.specs.Prelude.{Bool, false, ◌||◌, List, Option, Some, None, ℕ, zero, suc, ◌+◌, ◌-◌, ◌≤◌, ◌<◌, length, get_or, set, eqb}
 use Rattle.geometry.specs.Choice.{pick}
 use Rattle.slots.specs.Slots.{slot, same_kind}
 use Rattle.table.specs.Table.{node_at, HasSlot}
 use Rattle.slots.specs.declared.NodeKind.TheVariants.{Free}
-use Rattle.lists.specs.declared.Found.{Found}
-use Rattle.lists.specs.declared.Found.TheVariants.{At, Nothing}
 
 -- The table, whole, and how many of its places are filled.
 pub record Bag : Type 0 where
@@ -25,9 +23,9 @@ abbrev pub removed : Bag → ℕ → Bag
 removed b k = bag (set b.table k (get_or b.table (b.len - 1) 0)) (b.len - 1)
 
 -- The first place from `from` on, of `left` places, that holds v.
-unfoldable pub first_of : List ℕ → ℕ → ℕ → ℕ → Found
-first_of t v from zero = Nothing
-first_of t v from (suc left) = pick (eqb (get_or t from 0) v) (At from) (first_of t v (from + 1) left)
+unfoldable pub first_of : List ℕ → ℕ → ℕ → ℕ → Option ℕ
+first_of t v from zero = None
+first_of t v from (suc left) = pick (eqb (get_or t from 0) v) (Some from) (first_of t v (from + 1) left)
 
 -- Whether v stands among the first k places.
 unfoldable pub occurs : List ℕ → ℕ → ℕ → Bool

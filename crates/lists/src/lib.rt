@@ -1,15 +1,8 @@
 // A list in a lent table, of which the first places are filled: append, swap-remove and first occurrence.
 #![tactic(auto)]
 
-ghost use Rattle.std.specs.Prelude.{◌≡◌, ◌≤◌, ◌<◌, length};
+ghost use Rattle.std.specs.Prelude.{◌≡◌, ◌==◌, ◌≤◌, ◌<◌, length, position};
 ghost use Rattle.lists.specs.Lists.{bag, appended, removed, first_of};
-
-// Where an entry first stands, or that it does not.
-#[derive(Clone, Copy)]
-pub enum Found {
-    At(usize),
-    Nothing,
-}
 
 pub fn append(list: &mut [u32], len: usize, v: u32) -> usize
     requires { len < length list.old }
@@ -29,17 +22,17 @@ pub fn swap_remove(list: &mut [u32], len: usize, k: usize) -> usize
     last
 }
 
+// The first place of a slice that holds v.
+fn place_of(list: &[u32], v: u32) -> Option<usize>
+    ensures { result ≡ position (λ x. x == v) list.now }
+{
+    list.iter().position(|x| *x == v)
+}
+
 // The first place that holds v.
-pub fn first_of(list: &[u32], len: usize, v: u32) -> Found
+pub fn first_of(list: &[u32], len: usize, v: u32) -> Option<usize>
     requires { len ≤ length list.now }
     ensures { result ≡ first_of list.now v 0 len }
 {
-    let mut i = 0;
-    while i < len {
-        if list[i] == v {
-            return Found::At(i);
-        }
-        i += 1;
-    }
-    Found::Nothing
+    place_of(&list[..len], v)
 }

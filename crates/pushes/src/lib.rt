@@ -9,23 +9,16 @@ ghost use Rattle.pushes.specs.Sweeps.{is_kept, sweeping, sweep_step, sweep_to, S
 use slots::{AllocIndex, NodeKind};
 
 // Whether a sweep keeps entry x: a Free slot other than the pushed one v, not marked as seen.
+#[tactic(auto, unfolding(crate::specs::Sweeps::is_kept))]
 fn is_kept(words: &[u32], marks: &[u8], x: u32, v: u32) -> bool
     requires { Sweepable words.now marks.now x }
     ensures { result ≡ is_kept words.now v marks.now x }
 {
-    if x == v {
-        return false;
-    }
-    let at = x as usize;
-    if marks[at] != 0 {
-        return false;
-    }
-    let node = table::node_at(words, AllocIndex(x));
-    let kind = node.kind;
-    slots::same_kind(kind, NodeKind::Free)
+    x != v && marks[x as usize] == 0 && table::node_at(words, AllocIndex(x)).kind == NodeKind::Free
 }
 
 // Looks at entry i of a sweep: marks it as seen, and moves it behind the kept ones if it is kept.
+#[tactic(auto, unfolding(crate::specs::Sweeps::sweep_step))]
 fn sweep_entry(
     words: &[u32],
     list: &mut [u32],
@@ -39,8 +32,7 @@ fn sweep_entry(
 {
     let x = list[i];
     let keep = is_kept(words, marks, x, v);
-    let at = x as usize;
-    marks[at] = 1;
+    marks[x as usize] = 1;
     if keep {
         list[kept] = x;
         return kept + 1;
@@ -53,10 +45,8 @@ fn sweep_marked(words: &[u32], list: &mut [u32], marks: &mut [u8], len: usize, v
     ensures { sweeping list.new marks.new result ≡ sweep_to words.now v len (sweeping list.old marks.old 0) }
 {
     let mut kept = 0;
-    let mut i = 0;
-    while i < len {
+    for i in 0..len {
         kept = sweep_entry(words, list, marks, i, kept, v);
-        i += 1;
     }
     kept
 }

@@ -1,6 +1,6 @@
 -- A requested size has one of three outcomes, each exactly where it is due.
 -- Assumes nothing.
-use Rattle.std.specs.Prelude.{◌≡◌, refl, ◌↔◌, ◌⊎◌, ℕ, ◌≤◌, ◌<◌}
+use Rattle.std.specs.Prelude.{◌≡◌, refl, ◌↔◌, ◌⊎◌, Some, None, Result, Ok, Err, ℕ, ◌≤◌, ◌<◌}
 use Rattle.std.proofs.Common.{subst, ⊎_elim, arith, eqb-true, leb-true, leb-false}
 use Rattle.std.proofs.Math.Logic.{inl, inr}
 use Rattle.geometry.specs.Choice.{pick_elim}
@@ -10,9 +10,8 @@ use Rattle.geometry.specs.TestLaws.{or_true_one, or_false_each, above_zero}
 use Rattle.geometry.specs.declared.Size.{Size}
 use Rattle.geometry.specs.declared.Setup.{Setup}
 use Rattle.geometry.specs.declared.Extent.{Extent}
-use Rattle.rounding.specs.declared.Rounded.TheVariants.{To, Over}
-use Rattle.rounding.specs.declared.Request.{Request}
-use Rattle.rounding.specs.declared.Request.TheVariants.{Of, NotPositive, TooLarge}
+use Rattle.refusals.specs.declared.Refusal.{Refusal}
+use Rattle.refusals.specs.declared.Refusal.TheVariants.{NotPositive, TooLarge}
 use Rattle.rounding.specs.RequestLaws.{wide, tall, wide_up, tall_up, Outcome, accepted, not_positive, too_large}
 
 -- No number is both 0 and above 0, and none both within a bound and above it.
@@ -30,9 +29,9 @@ module _ (s : Setup) (size : Size) where
       Outcome s size (both_rounded (rounded s.alignment.width (wide size)) (rounded s.alignment.height (tall size)))
   unfolding rounded
   positive_outcome p q =
-      pick_elim (λ r. Outcome s size (both_rounded r (rounded s.alignment.height (tall size)))) _ (To _) Over
+      pick_elim (λ r. Outcome s size (both_rounded r (rounded s.alignment.height (tall size)))) _ (Some _) None
       (λ h.
-      pick_elim (λ r. Outcome s size (both_rounded (To (wide_up s size)) r)) _ (To _) Over
+      pick_elim (λ r. Outcome s size (both_rounded (Some (wide_up s size)) r)) _ (Some _) None
       (λ k. accepted p q (leb-true _ _ h) (leb-true _ _ k)) (λ k. too_large p q (inr (leb-false _ _ k))))
       (λ h. too_large p q (inl (leb-false _ _ h)))
 
@@ -40,14 +39,14 @@ module _ (s : Setup) (size : Size) where
   pub request_outcome : Outcome s size (request_of s size)
   unfolding request_of
   request_outcome =
-      pick_elim (Outcome s size) _ NotPositive _
+      pick_elim (Outcome s size) _ (Err NotPositive) _
       (λ h. not_positive (⊎_elim (λ e. inl (eqb-true _ _ e)) (λ e. inr (eqb-true _ _ e)) (or_true_one _ _ h)))
       (λ h.
       let k = or_false_each _ _ h in
       positive_outcome ((above_zero _).0 k.0) ((above_zero _).0 k.1))
 
   -- And no other: two outcomes of a request are the same.
-  pub outcome_unique : {r t : Request} → Outcome s size r → Outcome s size t → r ≡ t
+  pub outcome_unique : {r t : Result Extent Refusal} → Outcome s size r → Outcome s size t → r ≡ t
   outcome_unique (not_positive h) (not_positive k) = refl
   outcome_unique (not_positive h) (too_large p q k) = absurd (some_zero h p q)
   outcome_unique (not_positive h) (accepted p q k l) = absurd (some_zero h p q)
@@ -59,33 +58,33 @@ module _ (s : Setup) (size : Size) where
   outcome_unique (accepted p q k l) (accepted u v m n) = refl
 
   -- A request is refused as not positive exactly where a side is 0 or less.
-  pub request_not_positive : (request_of s size ≡ NotPositive) ↔ ((wide size ≡ 0) ⊎ (tall size ≡ 0))
+  pub request_not_positive : (request_of s size ≡ Err NotPositive) ↔ ((wide size ≡ 0) ⊎ (tall size ≡ 0))
   request_not_positive = (λ e. invert (subst (Outcome s size) e request_outcome), λ h. outcome_unique request_outcome (not_positive h))
     where
-      invert : Outcome s size NotPositive → (wide size ≡ 0) ⊎ (tall size ≡ 0)
+      invert : Outcome s size (Err NotPositive) → (wide size ≡ 0) ⊎ (tall size ≡ 0)
       invert (not_positive h) = h
 
   -- A request is refused as too large exactly where both sides are above 0 and one of them rounded up exceeds 2,147,483,647.
-  pub request_too_large : (request_of s size ≡ TooLarge) ↔
+  pub request_too_large : (request_of s size ≡ Err TooLarge) ↔
       ((0 < wide size) × (0 < tall size) × ((2147483647 < wide_up s size) ⊎ (2147483647 < tall_up s size)))
   request_too_large =
       (λ e. invert (subst (Outcome s size) e request_outcome), λ h. outcome_unique request_outcome (too_large h.0 h.1 h.2))
     where
-      invert : Outcome s size TooLarge → (0 < wide size) × (0 < tall size) × ((2147483647 < wide_up s size) ⊎ (2147483647 < tall_up s size))
+      invert : Outcome s size (Err TooLarge) → (0 < wide size) × (0 < tall size) × ((2147483647 < wide_up s size) ⊎ (2147483647 < tall_up s size))
       invert (too_large p q h) = (p, q, h)
 
   -- All that is known of the sides of a request that is taken.
-  rounded_sides : {e : Extent} → Outcome s size (Of e) →
+  rounded_sides : {e : Extent} → Outcome s size (Ok e) →
       (e.width ≡ wide_up s size) × (e.height ≡ tall_up s size) ×
       (0 < wide size) × (0 < tall size) × (wide_up s size ≤ 2147483647) × (tall_up s size ≤ 2147483647)
   rounded_sides (accepted p q h k) = (refl, refl, p, q, h, k)
 
   -- Otherwise it is taken, with both sides rounded up.
   pub request_accepted : 0 < wide size → 0 < tall size → wide_up s size ≤ 2147483647 → tall_up s size ≤ 2147483647 →
-      request_of s size ≡ Of (record { width = wide_up s size; height = tall_up s size })
+      request_of s size ≡ Ok (record { width = wide_up s size; height = tall_up s size })
   request_accepted p q h k = outcome_unique request_outcome (accepted p q h k)
 
-  module _ {e : Extent} (taken : request_of s size ≡ Of e) where
+  module _ {e : Extent} (taken : request_of s size ≡ Ok e) where
     -- A request that is taken is taken with its sides rounded up.
     pub request_rounded : (e.width ≡ wide_up s size) × (e.height ≡ tall_up s size)
     request_rounded = let h = rounded_sides (subst (Outcome s size) taken request_outcome) in (h.0, h.1)

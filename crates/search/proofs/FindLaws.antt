@@ -1,6 +1,6 @@
 -- What a search for a request does and what its answer means: the laws that its callers use.
 -- Each is about the outcome f of a search of lists that are ready for it. Assumes nothing.
-use Rattle.std.specs.Prelude.{◌≡◌, refl, true, List, ℕ, ◌≤◌, ◌<◌, length}
+use Rattle.std.specs.Prelude.{◌≡◌, refl, true, List, Option, Some, None, ℕ, ◌≤◌, ◌<◌, length}
 use Rattle.std.proofs.Common.{subst, arith}
 use Rattle.geometry.specs.Rectangles.{width_of, height_of}
 use Rattle.geometry.specs.Buckets.{rank}
@@ -15,9 +15,8 @@ use Rattle.slots.specs.declared.NodeKind.TheVariants.{Free}
 use Rattle.lists.specs.Lists.{free_entry, Each}
 use Rattle.buckets.specs.FreeLists.{Lists, list_of}
 use Rattle.choices.specs.declared.Chosen.{Chosen}
-use Rattle.choices.specs.declared.Chosen.TheVariants.{At, Nothing}
 use Rattle.fits.specs.Scans.{Lookable}
-use Rattle.choices.specs.Choices.{Searched, Searchable}
+use Rattle.choices.specs.Choices.{chosen_at, Searched, Searchable}
 use Rattle.search.specs.Search.{query_of, find_suitable}
 use Rattle.fits.specs.Suits.{Suits}
 use Rattle.lists.specs.Counts.{occurrences}
@@ -57,12 +56,12 @@ module _ (w : List ℕ) (s : Setup) (e : Extent) (l : Lists) (f : Searched) (fou
   answers = rw found (up_answers w (query_of s e) 2 (ideal_of s e.width e.height) l (omega arith) ready)
 
   -- The slot chosen suits the request, its entry stands at the place given, and its list is of the request's bucket or above.
-  pub search_chosen : (i : AllocIndex) (b : Bucket) (k : ℕ) → f.chosen ≡ At i b k
+  pub search_chosen : (i : AllocIndex) (b : Bucket) (k : ℕ) → f.chosen ≡ chosen_at i b k
       → Chose w (query_of s e) (λ c. rank (ideal_of s e.width e.height) ≤ rank c) f.lists i b k
   search_chosen i b k c = rw c at answers
 
   -- The slot chosen is in the table, with its corners in order.
-  pub search_chosen_lookable : (i : AllocIndex) (b : Bucket) (k : ℕ) → f.chosen ≡ At i b k → Lookable w i.0
+  pub search_chosen_lookable : (i : AllocIndex) (b : Bucket) (k : ℕ) → f.chosen ≡ chosen_at i b k → Lookable w i.0
   search_chosen_lookable i b k c =
       let z = search_chosen i b k c in
       subst (Lookable w) z.entry ((search_keeps_searchable b).entries k z.place)
@@ -72,7 +71,7 @@ module _ (w : List ℕ) (s : Setup) (e : Extent) (l : Lists) (f : Searched) (fou
     -- Nothing is chosen only where no slot suits.
     pub search_nothing_means_none : ((x : ℕ) → x < n → (node_at w (slot x)).kind ≡ Free
         → 0 < occurrences x (list_of (ideal_of s (width_of (node_at w (slot x)).rect) (height_of (node_at w (slot x)).rect)) l))
-        → f.chosen ≡ Nothing → (x : ℕ) → x < n → Suits w e.width e.height x → ⊥
+        → f.chosen ≡ None → (x : ℕ) → x < n → Suits w e.width e.height x → ⊥
     search_nothing_means_none listed c x h z =
         let b = ideal_of s (width_of (node_at w (slot x)).rect) (height_of (node_at w (slot x)).rect) in
         let free : free_entry w x ≡ true = rw z.free in
@@ -80,11 +79,11 @@ module _ (w : List ℕ) (s : Setup) (e : Extent) (l : Lists) (f : Searched) (fou
 
     -- Something is chosen only where a slot suits.
     pub search_none_means_nothing : ((b : Bucket) → Each (λ x. x < n) (list_of b l))
-        → ((x : ℕ) → x < n → Suits w e.width e.height x → ⊥) → f.chosen ≡ Nothing
+        → ((x : ℕ) → x < n → Suits w e.width e.height x → ⊥) → f.chosen ≡ None
     search_none_means_nothing below none = chose f.chosen refl
       where
-        chose : (a : Chosen) → f.chosen ≡ a → a ≡ Nothing
-        chose Nothing c = refl
-        chose (At i b k) c =
-            let z = search_chosen i b k c in
-            absurd (none i.0 (subst (λ (x : ℕ). x < n) z.entry (search_each (λ x. x < n) b (below b) k z.place)) z.suits)
+        chose : (a : Option Chosen) → f.chosen ≡ a → a ≡ None
+        chose None c = refl
+        chose (Some a) c =
+            let z = search_chosen a.slot a.bucket a.place c in
+            absurd (none a.slot.0 (subst (λ (x : ℕ). x < n) z.entry (search_each (λ x. x < n) a.bucket (below a.bucket) a.place z.place)) z.suits)

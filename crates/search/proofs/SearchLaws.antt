@@ -1,18 +1,17 @@
 -- The laws of the search by which its functions are proved: what each of their calls ensures makes the whole.
 -- Assumes nothing.
-use Rattle.std.specs.Prelude.{◌≡◌, Bool, true, false, List, ℕ}
+use Rattle.std.specs.Prelude.{◌≡◌, Bool, true, false, List, Option, Some, None, ℕ}
 use Rattle.std.proofs.Math.Path.{refl}
 use Rattle.std.proofs.Common.{arith}
 use Rattle.geometry.specs.Choice.{pick, pick_elim}
-use Rattle.geometry.specs.Buckets.{bucket_of}
 use Rattle.geometry.specs.declared.Bucket.{Bucket}
 use Rattle.geometry.specs.declared.Bucket.TheVariants.{Small, Medium, Large}
-use Rattle.geometry.specs.declared.Extent.{Extent}
-use Rattle.geometry.specs.declared.Setup.{Setup}
 use Rattle.buckets.specs.FreeLists.{Lists}
 use Rattle.fits.specs.declared.Query.{Query}
 use Rattle.choices.specs.declared.Chosen.{Chosen}
-use Rattle.choices.specs.declared.Chosen.TheVariants.{At, Nothing}
+use Rattle.geometry.specs.Buckets.{bucket_of}
+use Rattle.geometry.specs.declared.Extent.{Extent}
+use Rattle.geometry.specs.declared.Setup.{Setup}
 use Rattle.choices.specs.Choices.{Searched, search_one, is_large, higher, settled, Searchable}
 use Rattle.choices.specs.ChoiceLaws.{one_searchable}
 use Rattle.search.specs.Search.{search_up, gone_on, find_suitable}
@@ -36,11 +35,11 @@ module _ (w : List ℕ) (q : Query) (b : Bucket) (s r : Searched) where
       (λ _. one_searchable w q (higher b) s.lists _ refl h))
 
 -- A search that has ended has ended in the bucket above too.
-settled_higher : (c : Chosen) (b : Bucket) → settled c b ≡ true → settled c (higher b) ≡ true
-settled_higher (At i a k) b f = refl
-settled_higher Nothing Small f = let z : ◌≡◌ {A = ℕ} 0 1 = cc in absurd (omega arith)
-settled_higher Nothing Medium f = refl
-settled_higher Nothing Large f = refl
+settled_higher : (c : Option Chosen) (b : Bucket) → settled c b ≡ true → settled c (higher b) ≡ true
+settled_higher (Some a) b f = refl
+settled_higher None Small f = let z : ◌≡◌ {A = ℕ} 0 1 = cc in absurd (omega arith)
+settled_higher None Medium f = refl
+settled_higher None Large f = refl
 
 -- From a bucket upward: the bucket, and twice one more.
 pub up_thrice : (w : List ℕ) (q : Query) (b c : Bucket) (l : Lists) (s t r : Searched) → s ≡ search_one w q b l → t ≡ gone_on w q b s → c ≡ higher b

@@ -1,6 +1,6 @@
 -- What the answer of a search tells: a slot that suits, or that none of the lists searched has an entry of one.
 -- Assumes nothing.
-use Rattle.std.specs.Prelude.{◌≡◌, refl, true, false, List, ℕ, zero, suc, ◌+◌, ◌≤◌, ◌<◌, get_or}
+use Rattle.std.specs.Prelude.{◌≡◌, refl, true, false, List, Option, Some, None, ℕ, zero, suc, ◌+◌, ◌≤◌, ◌<◌, get_or}
 use Rattle.std.proofs.Common.{⊎_elim, arith}
 use Rattle.geometry.specs.Choice.{pick_elim}
 use Rattle.geometry.specs.Buckets.{rank}
@@ -12,7 +12,6 @@ use Rattle.buckets.specs.FreeLists.{Lists, list_of, with_list}
 use Rattle.fits.specs.declared.Best.{Best}
 use Rattle.fits.specs.declared.Best.TheVariants as best
 use Rattle.choices.specs.declared.Chosen.{Chosen}
-use Rattle.choices.specs.declared.Chosen.TheVariants.{At, Nothing}
 use Rattle.fits.specs.declared.Query.{Query}
 use Rattle.fits.specs.Scans.{Scanned}
 use Rattle.choices.specs.Choices.{chosen_of, scan_bucket, Searched, search_one, is_large, higher, settled, Searchable}
@@ -37,9 +36,9 @@ pub record Chose (w : List ℕ) (q : Query) (Among : Bucket → Type 0) (l : Lis
   pub suits : Suits w q.width q.height i.0
 
 -- What the answer of a search of some buckets tells.
-abbrev pub Answered : List ℕ → Query → (Bucket → Type 0) → Lists → Chosen → Type 0
-Answered w q Among l (At i b k) = Chose w q Among l i b k
-Answered w q Among l Nothing = (c : Bucket) → Among c → (x : ℕ) → 0 < occurrences x (list_of c l) → Suits w q.width q.height x → ⊥
+abbrev pub Answered : List ℕ → Query → (Bucket → Type 0) → Lists → Option Chosen → Type 0
+Answered w q Among l (Some c) = Chose w q Among l c.slot c.bucket c.place
+Answered w q Among l None = (c : Bucket) → Among c → (x : ℕ) → 0 < occurrences x (list_of c l) → Suits w q.width q.height x → ⊥
 
 -- A bucket that isn't large has the next above it; large is the last.
 rank_higher : (b : Bucket) → is_large b ≡ false → rank (higher b) ≡ rank b + 1
@@ -58,12 +57,12 @@ rank_last Medium = omega arith
 rank_last Large = omega arith
 
 -- A search goes on where nothing was chosen and the bucket isn't large.
-settled_true : (a : Chosen) (b : Bucket) → settled a b ≡ true → a ≡ Nothing → 2 ≤ rank b
+settled_true : (a : Option Chosen) (b : Bucket) → settled a b ≡ true → a ≡ None → 2 ≤ rank b
 settled_true a b f e = rank_large b (rw e at f)
 
-settled_false : (a : Chosen) (b : Bucket) → settled a b ≡ false → (a ≡ Nothing) × (is_large b ≡ false)
-settled_false (At i c k) b f = let z : ◌≡◌ {A = ℕ} 0 1 = cc in absurd (omega arith)
-settled_false Nothing b f = (refl, f)
+settled_false : (a : Option Chosen) (b : Bucket) → settled a b ≡ false → (a ≡ None) × (is_large b ≡ false)
+settled_false (Some c) b f = let z : ◌≡◌ {A = ℕ} 0 1 = cc in absurd (omega arith)
+settled_false None b f = (refl, f)
 
 -- One bucket: what its scan knows at the end is what the answer tells.
 one_answers : (w : List ℕ) (q : Query) (b : Bucket) (l : Lists) → Searchable w l
@@ -89,17 +88,17 @@ one_answers w q b l r = answer _ (scan_scans w q (list_of b l).table (list_of b 
             occurs_at x (list_in o) m (λ j g y. f j (omega arith) (rw (← y) at z))
 
 -- The bucket decides: with a choice, or as the last.
-answered_here : (w : List ℕ) (q : Query) (b : Bucket) (l : Lists) (a : Chosen) → (a ≡ Nothing → 2 ≤ rank b)
+answered_here : (w : List ℕ) (q : Query) (b : Bucket) (l : Lists) (a : Option Chosen) → (a ≡ None → 2 ≤ rank b)
     → Answered w q (λ c. c ≡ b) l a → Answered w q (λ c. rank b ≤ rank c) l a
-answered_here w q b l (At i c k) n h = record { among = rw h.among (omega arith); place = h.place; entry = h.entry; suits = h.suits }
-answered_here w q b l Nothing n h = λ c g. h c (rank_injective (omega (arith, rank_last c, n refl)))
+answered_here w q b l (Some a) n h = record { among = rw h.among (omega arith); place = h.place; entry = h.entry; suits = h.suits }
+answered_here w q b l None n h = λ c g. h c (rank_injective (omega (arith, rank_last c, n refl)))
 
 -- The buckets above decide: the lists are thinned further, so the bucket's has still no entry that suits.
-answered_above : (w : List ℕ) (q : Query) (b : Bucket) (l m : Lists) (a : Chosen) → rank (higher b) ≡ rank b + 1
+answered_above : (w : List ℕ) (q : Query) (b : Bucket) (l m : Lists) (a : Option Chosen) → rank (higher b) ≡ rank b + 1
     → ((c : Bucket) → Thinned w (list_of c l) (list_of c m))
-    → Answered w q (λ c. c ≡ b) l Nothing → Answered w q (λ c. rank (higher b) ≤ rank c) m a → Answered w q (λ c. rank b ≤ rank c) m a
-answered_above w q b l m (At i c k) e t n h = record { among = omega (arith, h.among); place = h.place; entry = h.entry; suits = h.suits }
-answered_above w q b l m Nothing e t n h =
+    → Answered w q (λ c. c ≡ b) l None → Answered w q (λ c. rank (higher b) ≤ rank c) m a → Answered w q (λ c. rank b ≤ rank c) m a
+answered_above w q b l m (Some a) e t n h = record { among = omega (arith, h.among); place = h.place; entry = h.entry; suits = h.suits }
+answered_above w q b l m None e t n h =
     λ c g x o.
     ⊎_elim (λ s. n c (rank_injective s) x (omega (arith, (t c).drops x))) (λ d. h c (omega arith) x o) (same_or_not (rank c) (rank b))
 
@@ -117,7 +116,7 @@ up_thins w q (suc k) b l r c =
 pub up_answers : (w : List ℕ) (q : Query) (k : ℕ) (b : Bucket) (l : Lists) → 2 ≤ rank b + k → Searchable w l
     → Answered w q (λ c. rank b ≤ rank c) (search_up w q k b l).lists (search_up w q k b l).chosen
 unfolding search_up
-up_answers w q zero b l h r = answered_here w q b _ _ (λ (n : (search_one w q b l).chosen ≡ Nothing). omega arith) (one_answers w q b l r)
+up_answers w q zero b l h r = answered_here w q b _ _ (λ (n : (search_one w q b l).chosen ≡ None). omega arith) (one_answers w q b l r)
 up_answers w q (suc k) b l h r =
     let s = search_one w q b l in
     let one = one_answers w q b l r in

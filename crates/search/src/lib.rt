@@ -12,6 +12,7 @@ use fits::Query;
 use geometry::{Bucket, Extent, Setup};
 
 // Goes on in the bucket above, unless the search ended in this one.
+#[tactic(auto, unfolding(crate::specs::Search::gone_on))]
 fn search_on(
     words: &[u32],
     small: &mut [u32],
@@ -25,23 +26,22 @@ fn search_on(
     ensures { searched result.chosen (lists result.lengths small.new medium.new large.new)
         ≡ gone_on words.now q bucket (searched s.chosen (lists s.lengths small.old medium.old large.old)) }
 {
-    let chosen = s.chosen;
-    if choices::is_settled(chosen, bucket) {
+    if choices::is_settled(s.chosen, bucket) {
         return s;
     }
-    let lengths = s.lengths;
     choices::search_one(
         words,
         small,
         medium,
         large,
-        lengths,
+        s.lengths,
         choices::higher(bucket),
         q,
     )
 }
 
 // Searches from a bucket upward. The first bucket with a candidate decides.
+#[tactic(auto, using(crate::proofs::SearchLaws::up_thrice))]
 fn search_from(
     words: &[u32],
     small: &mut [u32],
@@ -61,6 +61,7 @@ fn search_from(
 }
 
 // The Free rectangle for a request, by the thresholds: which slot, and where its entry stands.
+#[tactic(auto, unfolding(crate::specs::Search::find_suitable))]
 pub fn find_suitable_rect(
     words: &[u32],
     small: &mut [u32],

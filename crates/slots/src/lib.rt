@@ -2,23 +2,24 @@
 #![tactic(auto)]
 
 ghost use Rattle.std.specs.Prelude.{◌≡◌, ◌<◌};
-ghost use Rattle.slots.specs.Slots.{is_none, kind_number, orientation_number, same_kind, same_orientation, kind_of, orientation_of, code_of};
+ghost use Rattle.slots.specs.Slots.{is_none, kind_of, orientation_of, code_of};
 
 use geometry::{Orientation, Rectangle};
 
 // The number of a slot, or none.
-#[derive(Clone, Copy)]
+#[derive(Clone, Copy, PartialEq, Eq)]
 pub struct AllocIndex(pub u32);
 
 // The link that names no slot.
-pub const NONE: u32 = 4294967295;
+pub const NONE: AllocIndex = AllocIndex(4294967295);
 
-#[derive(Clone, Copy)]
+// What a slot is, by its number in the code word.
+#[derive(Clone, Copy, PartialEq, Eq)]
 pub enum NodeKind {
-    Container,
-    Alloc,
-    Free,
-    Unused,
+    Container = 0,
+    Alloc = 1,
+    Free = 2,
+    Unused = 3,
 }
 
 // A slot's contents.
@@ -35,76 +36,38 @@ pub struct Node {
 pub fn is_none(i: AllocIndex) -> bool
     ensures { result ≡ is_none i }
 {
-    i.0 == NONE
-}
-
-fn kind_number(kind: NodeKind) -> u32
-    ensures { (result ≡ kind_number kind) × (result < 4) }
-{
-    match kind {
-        NodeKind::Container => 0,
-        NodeKind::Alloc => 1,
-        NodeKind::Free => 2,
-        NodeKind::Unused => 3,
-    }
-}
-
-fn orientation_number(o: Orientation) -> u32
-    ensures { result ≡ orientation_number o }
-{
-    match o {
-        Orientation::Vertical => 0,
-        Orientation::Horizontal => 1,
-    }
-}
-
-pub fn same_kind(a: NodeKind, b: NodeKind) -> bool
-    ensures { result ≡ same_kind a b }
-{
-    kind_number(a) == kind_number(b)
-}
-
-pub fn same_orientation(a: Orientation, b: Orientation) -> bool
-    ensures { result ≡ same_orientation a b }
-{
-    orientation_number(a) == orientation_number(b)
+    i == NONE
 }
 
 // The kind that a code word means. A word outside the code means Unused, so that it is never a live slot.
+#[tactic(auto, unfolding(crate::specs::Slots::kind_of))]
 pub fn kind_of(code: u32) -> NodeKind
     ensures { result ≡ kind_of code }
 {
     if code > 7 {
         return NodeKind::Unused;
     }
-    let k = code % 4;
-    if k == 0 {
-        return NodeKind::Container;
+    match code % 4 {
+        0 => NodeKind::Container,
+        1 => NodeKind::Alloc,
+        2 => NodeKind::Free,
+        _ => NodeKind::Unused,
     }
-    if k == 1 {
-        return NodeKind::Alloc;
-    }
-    if k == 2 {
-        return NodeKind::Free;
-    }
-    NodeKind::Unused
 }
 
+#[tactic(auto, unfolding(crate::specs::Slots::orientation_of))]
 pub fn orientation_of(code: u32) -> Orientation
     ensures { result ≡ orientation_of code }
 {
     if code < 4 {
-        return Orientation::Vertical;
+        Orientation::Vertical
+    } else {
+        Orientation::Horizontal
     }
-    Orientation::Horizontal
 }
 
 pub fn code_of(kind: NodeKind, o: Orientation) -> u32
     ensures { result ≡ code_of kind o }
 {
-    let k = kind_number(kind);
-    match o {
-        Orientation::Vertical => k,
-        Orientation::Horizontal => k + 4,
-    }
+    kind as u32 + 4 * (o as u32)
 }

@@ -9,31 +9,28 @@ use geometry::Rectangle;
 use slots::{AllocIndex, Node, NodeKind};
 
 // Stores word f of slot i.
+#[tactic(auto, unfolding(crate::specs::Stores::set_word))]
 fn put_word(words: &mut [u32], i: AllocIndex, f: usize, v: u32)
     requires { HasSlot words.old i × (f < 8) }
     ensures { words.new ≡ set_word words.old i f v }
 {
-    let n = i.0;
-    let at = (n as usize) * 8 + f;
-    words[at] = v;
+    words[i.0 as usize * 8 + f] = v;
 }
 
 // Stores a whole node at slot i.
+#[tactic(auto, unfolding(crate::specs::Stores::stored, crate::specs::Stores::stored_rect))]
 pub fn put_node(words: &mut [u32], i: AllocIndex, node: Node)
     requires { HasSlot words.old i }
     ensures { words.new ≡ stored words.old i (to_node node) }
 {
-    let kind = node.kind;
-    let orientation = node.orientation;
-    let rect = node.rect;
-    let code = slots::code_of(kind, orientation);
     put_word(words, i, 0, node.parent.0);
     put_word(words, i, 1, node.next.0);
     put_word(words, i, 2, node.prev.0);
-    put_word(words, i, 3, code);
-    set_rect(words, i, rect);
+    put_word(words, i, 3, slots::code_of(node.kind, node.orientation));
+    set_rect(words, i, node.rect);
 }
 
+#[tactic(auto, unfolding(crate::specs::Stores::stored))]
 pub fn set_parent(words: &mut [u32], i: AllocIndex, to: AllocIndex)
     requires { HasSlot words.old i }
     ensures { words.new ≡ stored words.old i (to_parent to) }
@@ -41,6 +38,7 @@ pub fn set_parent(words: &mut [u32], i: AllocIndex, to: AllocIndex)
     put_word(words, i, 0, to.0);
 }
 
+#[tactic(auto, unfolding(crate::specs::Stores::stored))]
 pub fn set_next(words: &mut [u32], i: AllocIndex, to: AllocIndex)
     requires { HasSlot words.old i }
     ensures { words.new ≡ stored words.old i (toNext to) }
@@ -48,6 +46,7 @@ pub fn set_next(words: &mut [u32], i: AllocIndex, to: AllocIndex)
     put_word(words, i, 1, to.0);
 }
 
+#[tactic(auto, unfolding(crate::specs::Stores::stored))]
 pub fn set_prev(words: &mut [u32], i: AllocIndex, to: AllocIndex)
     requires { HasSlot words.old i }
     ensures { words.new ≡ stored words.old i (toPrev to) }
@@ -55,6 +54,7 @@ pub fn set_prev(words: &mut [u32], i: AllocIndex, to: AllocIndex)
     put_word(words, i, 2, to.0);
 }
 
+#[tactic(auto, unfolding(crate::specs::Stores::stored))]
 pub fn set_kind(words: &mut [u32], i: AllocIndex, kind: NodeKind)
     requires { HasSlot words.old i }
     ensures { words.new ≡ stored words.old i (to_kind kind) }
@@ -64,6 +64,7 @@ pub fn set_kind(words: &mut [u32], i: AllocIndex, kind: NodeKind)
     put_word(words, i, 3, slots::code_of(kind, kept));
 }
 
+#[tactic(auto, unfolding(crate::specs::Stores::stored, crate::specs::Stores::stored_rect))]
 pub fn set_rect(words: &mut [u32], i: AllocIndex, rect: Rectangle)
     requires { HasSlot words.old i }
     ensures { words.new ≡ stored words.old i (to_rect rect) }

@@ -8,29 +8,27 @@ use geometry::Rectangle;
 use slots::{AllocIndex, Node};
 
 // Word f of slot i.
+#[tactic(auto, unfolding(crate::specs::Table::word))]
 pub fn word_at(words: &[u32], i: AllocIndex, f: usize) -> u32
     requires { HasSlot words.now i × (f < 8) }
     ensures { result ≡ word words.now i f }
 {
-    let n = i.0;
-    let at = (n as usize) * 8 + f;
-    words[at]
+    words[i.0 as usize * 8 + f]
 }
 
 // Fetches slot i.
+#[tactic(auto, unfolding(crate::specs::Table::node_at))]
 pub fn node_at(words: &[u32], i: AllocIndex) -> Node
     requires { HasSlot words.now i }
     ensures { result ≡ node_at words.now i }
 {
     let code = word_at(words, i, 3);
-    let kind = slots::kind_of(code);
-    let orientation = slots::orientation_of(code);
     Node {
         parent: AllocIndex(word_at(words, i, 0)),
         next: AllocIndex(word_at(words, i, 1)),
         prev: AllocIndex(word_at(words, i, 2)),
-        kind: kind,
-        orientation: orientation,
+        kind: slots::kind_of(code),
+        orientation: slots::orientation_of(code),
         rect: Rectangle {
             x0: word_at(words, i, 4),
             y0: word_at(words, i, 5),

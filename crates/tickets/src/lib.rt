@@ -7,7 +7,7 @@ ghost use Rattle.tickets.specs.Tickets.{ticket_of, slot_of, generation_of};
 use slots::AllocIndex;
 
 // A ticket: what a caller holds for an allocated rectangle.
-#[derive(Clone, Copy)]
+#[derive(Clone, Copy, PartialEq, Eq)]
 pub struct AllocId(pub u32);
 
 // The ticket of a slot with its generation.
@@ -15,7 +15,7 @@ pub fn alloc_id(i: AllocIndex, generation: u8) -> AllocId
     requires { i.0 < 16777216 }
     ensures { result ≡ ticket_of i generation }
 {
-    AllocId(i.0 + (generation as u32) * 16777216)
+    AllocId(i.0 + u32::from(generation) * 16777216)
 }
 
 // The slot that a ticket names.

@@ -1,26 +1,17 @@
--- `buckets::entry_of` meets its contract: a bucket where nothing is found is passed (`entry_on`), and one with an entry ends it (`entry_here`).
+-- `buckets::entry_of` meets its contract: a bucket with an entry ends the loop (`entry_here`), and one where nothing is found is passed (`entry_on`).
 -- Assumes nothing.
-use Rattle.buckets.specs.FreeLists.{entry_of}
+use Rattle.std.proofs.Common.{◌∙◌, [], ◌∷◌}
+use Rattle.geometry.specs.declared.Bucket.TheVariants.{Small, Medium, Large}
 use Rattle.buckets.specs.ForgetLaws.{entry_here, entry_on, entry_none}
 use Rattle.buckets.proofs.entry_of.Goals as goal
 
-pub returns-in-At : goal.returns-in-At
-unfolding entry_of
-returns-in-At c = entry_here _ _ _ _ _ c.first_in.ensures _ c.in-At.is
+pub returns-in-Some : goal.returns-in-Some
+returns-in-Some c =
+    entry_here _ (Small ∷ Medium ∷ Large ∷ []) _ _ c.loop-bucket-test.true _ c.first_in.ensures _ c.in-Some.is ∙ c.loop-bucket.invariant
 
-pub returns-in-At-first_in : goal.returns-in-At-first_in
-unfolding entry_of
-returns-in-At-first_in c = entry_on _ _ _ _ _ c.first_in.ensures _ c.in_default.is
-    (entry_here _ _ _ _ _ c.first_in-2.ensures _ c.in-At-first_in.is)
-
-pub returns-in-At-first_in-2 : goal.returns-in-At-first_in-2
-unfolding entry_of
-returns-in-At-first_in-2 c = entry_on _ _ _ _ _ c.first_in.ensures _ c.in_default.is
-    (entry_on _ _ _ _ _ c.first_in-2.ensures _ c.in_default-first_in.is
-    (entry_here _ _ _ _ _ c.first_in-3.ensures _ c.in-At-first_in-2.is))
+pub loop-bucket-preserved : goal.loop-bucket-preserved
+loop-bucket-preserved c =
+    entry_on _ (Small ∷ Medium ∷ Large ∷ []) _ _ c.loop-bucket-test.true _ c.first_in.ensures c.in_default.is ∙ c.loop-bucket.invariant
 
 pub returns : goal.returns
-unfolding entry_of
-returns c = entry_on _ _ _ _ _ c.first_in.ensures _ c.in_default.is
-    (entry_on _ _ _ _ _ c.first_in-2.ensures _ c.in_default-first_in.is
-    (entry_on _ _ _ _ _ c.first_in-3.ensures _ c.in_default-first_in-2.is (entry_none _ _)))
+returns c = entry_none _ (Small ∷ Medium ∷ Large ∷ []) _ _ c.loop-bucket-test.false ∙ c.loop-bucket.invariant

@@ -1,6 +1,5 @@
 -- `search_one` scans the list of its bucket, in each of the three arms.
 -- Assumes nothing.
-use borrow.Author.Rules.{rules}
 use Rattle.geometry.specs.declared.Bucket.TheVariants.{Small, Medium, Large}
 use Rattle.choices.specs.ChoiceLaws.{one_searched}
 use Rattle.choices.proofs.search_one.Goals as goal

@@ -1,13 +1,10 @@
 -- `scan_list` is the whole scan. Its loop's invariant: the list is ready and as long as it was, and the looks that are left lead where the
 -- scan from the start does. The measure is the places left. Assumes nothing.
-use mathlib.Core.Path.{◌≡◌, refl, sym, ◌∙◌}
+use mathlib.Core.Path.{◌≡◌}
 use Prim.Native.Nat.{◌-◌}
-use native.Mathlib.Omega.{arith}
 use lib.ListN.{length}
-use borrow.Author.Rules.{rules}
 use Rattle.lists.specs.Lists.{bag}
 use Rattle.fits.specs.Scans.{scanned, looking, scan_all, Ready, Open}
-use Rattle.fits.proofs.ScanLaws.{look_left, look_ready, look_open, looking_past, looking_enough, looking_on}
 use Rattle.fits.proofs.scan_list.Given as goal
 
 abbrev pub invariant-loop-s : goal.invariant-loop-s

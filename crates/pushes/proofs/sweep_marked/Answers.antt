@@ -1,5 +1,5 @@
 -- `pushes::sweep_marked` meets its contract. The loop's invariant: the state is that of the first i entries, and those from i on are as they were.
--- The measure is what is left of the list. Assumes nothing.
+-- Assumes nothing.
 use mathlib.Core.Path.{refl}
 use native.Mathlib.Omega.{arith}
 use Rattle.pushes.specs.Sweeps.{sweep_to}
