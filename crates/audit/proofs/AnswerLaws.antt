@@ -1,6 +1,6 @@
 -- Of a call that checks first: no other outcome meets its contract; when it gives 1 and 2; and that what it does on sound tables, it does there alone.
 -- Assumes nothing.
-use Rattle.std.specs.Prelude.{◌≡◌, refl, ◌↔◌, ◌⊎◌, eqb}
+use Rattle.std.specs.Prelude.{◌≡◌, refl, ◌↔◌, eqb}
 use Rattle.std.proofs.Common.{ap, sym, ◌∙◌, ⊎_elim, arith, eqb-true, eq-eqb, ne_eqb}
 use Prim.Native.Nat.{ℕ}
 use Rattle.std.proofs.lemmas.Bool.{eqb-false}

@@ -19,14 +19,13 @@ use Rattle.below.specs.Below.{first_from}
 use Rattle.marks.specs.Marks.{listed_at, marks_of, ListsReady}
 use Rattle.audit.specs.Audited as audited
 use Rattle.audit.specs.Audited.{Rule2, has_entry, Audited}
-use Rattle.judged.specs.Verdicts.{lowest_bad}
+use Rattle.judged.specs.Verdicts.{Verdict, lowest_bad}
 use Rattle.counted.specs.Numbers.{numbers_of, entries_found}
 use Rattle.walked.specs.Trees.{firsts_of, TreeReady}
 use Rattle.judged.specs.Judged as judged
 use Rattle.judged.specs.Judged.{AllMarked, Judged}
 use Rattle.audit.proofs.EntryLaws.{marks_say_entries, entries_say_listed}
 use Rattle.counted.specs.CountLaws.{entries_cases, counted_numbers, numbers_counted, numbers_table}
-use Rattle.judged.specs.declared.Verdict.{Verdict}
 
 -- Tests that agree on the first n places have the same lowest bad one.
 first_same : (p q : ℕ → Bool) (from left : ℕ) → ((i : ℕ) → from ≤ i → i < from + left → p i ≡ q i) → first_from p from left ≡ first_from q from left

@@ -4,9 +4,12 @@
 ghost use Rattle.std.specs.Prelude.{length};
 ghost use Rattle.steps.specs.State.{state};
 ghost use Rattle.lent.specs.Lent.{Lent};
+ghost use Rattle.judged.specs.Verdicts.{rule_of, place_of};
+ghost use Rattle.refusals.specs.Refusals.{answer_of};
 ghost use Rattle.audit.specs.Audited.{Audited, Checked};
 
-use judged::Verdict;
+use judged::{Broken, Rule};
+use refusals::Refusal;
 use steps::Head;
 
 // The audit: the lowest-numbered rule of soundness that is broken, and the lowest place that breaks it. It changes nothing.
@@ -17,10 +20,10 @@ pub fn audit(
     medium: &[u32],
     large: &[u32],
     head: Head,
-) -> Verdict
+) -> Result<(), Broken>
     requires { Lent (length words.now) (length generations.now) (length small.now) (length medium.now) (length large.now) }
     ensures { Audited (state head words.now generations.now small.now medium.now large.now)
-        result.rule result.place }
+        (rule_of result) (place_of result) }
 {
     if !counted::numbers_hold(
         generations.len(),
@@ -29,23 +32,24 @@ pub fn audit(
         large.len(),
         head,
     ) {
-        return Verdict { rule: 1, place: 0 };
+        return Err(Broken {
+            rule: Rule::Numbers,
+            place: 0,
+        });
     }
     let n = head.count;
-    let lengths = head.lengths;
-    let found = counted::entries_found(small, medium, large, lengths, n);
-    if found.rule != 0 {
-        return found;
-    }
+    counted::entries_found(small, medium, large, head.lengths, n)?;
     let unused = counts::unused_below(words, n);
-    let spare = head.spare;
-    if !merged::spare_walk(words, n, spare, unused) {
-        return Verdict { rule: 2, place: 0 };
+    if !merged::spare_walk(words, n, head.spare, unused) {
+        return Err(Broken {
+            rule: Rule::SpareChain,
+            place: 0,
+        });
     }
     walked::audit_tree(words, small, medium, large, head, n - unused)
 }
 
-// The check of the tables, whatever they hold. 1: a table length is out of range; 2: the tables are not sound; 0: they are.
+// The check of the tables, whatever they hold: refused where a table length is out of range or the tables are not sound.
 pub fn check(
     words: &[u32],
     generations: &[u8],
@@ -53,8 +57,8 @@ pub fn check(
     medium: &[u32],
     large: &[u32],
     head: Head,
-) -> u32
-    ensures { Checked (state head words.now generations.now small.now medium.now large.now) result }
+) -> Result<(), Refusal>
+    ensures { Checked (state head words.now generations.now small.now medium.now large.now) (answer_of result) }
 {
     if !lent::is_lent(
         words.len(),
@@ -63,11 +67,10 @@ pub fn check(
         medium.len(),
         large.len(),
     ) {
-        return 1;
+        return Err(Refusal::TableLength);
     }
-    let found = audit(words, generations, small, medium, large, head);
-    if found.rule != 0 {
-        return 2;
+    match audit(words, generations, small, medium, large, head) {
+        Ok(()) => Ok(()),
+        Err(_) => Err(Refusal::NotSound),
     }
-    0
 }

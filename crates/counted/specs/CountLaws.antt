@@ -1,6 +1,6 @@
 -- RULE 1, EXACT: the test of the numbers and the scans of the entries decide it.
 -- Assumes nothing.
-use Rattle.std.specs.Prelude.{◌≡◌, refl, Bool, true, false, ◌⊎◌, ℕ, ◌≤◌, ◌<◌, ltb, leb}
+use Rattle.std.specs.Prelude.{◌≡◌, refl, Bool, true, false, ◌⊎◌, Some, None, ℕ, ◌≤◌, ◌<◌, ltb, leb}
 use Rattle.std.proofs.Common.{ap, sym, ◌∙◌, true≢false, inl, inr, arith, ltb-true, ltb-false, lt-ltb, le-ltb, leb-true, le-leb}
 use Rattle.geometry.specs.Choice.{pick}
 use Rattle.geometry.specs.Sides.{valid_setup}
@@ -14,11 +14,10 @@ use Rattle.sound.specs.Sound.{Counted}
 use Rattle.links.specs.Links.{Table}
 use Rattle.links.specs.TestLaws.{Says, both_say, not_say, less_says, equal_says}
 use Rattle.lent.specs.Lent.{LentOf}
-use Rattle.below.specs.Below.{first_from, entry_below}
-use Rattle.below.specs.FirstLaws.{lowest_breaks, lowest_all, all_lowest}
+use Rattle.below.specs.Below.{first_from, first_bad, entry_below}
+use Rattle.below.specs.FirstLaws.{lowest_breaks, lowest_all, all_lowest, bad_some, bad_none}
 use Rattle.counted.specs.Numbers.{numbers_hold, numbers_of, entry_found, entries_found, EntriesReady}
-use Rattle.judged.specs.Verdicts.{verdict}
-use Rattle.judged.specs.declared.Verdict.{Verdict}
+use Rattle.judged.specs.Verdicts.{Verdict, verdict}
 
 most_says : (i n : ℕ) → Says (leb i n) (i ≤ n)
 most_says i n = (leb-true i n, le-leb i n)
@@ -53,11 +52,43 @@ entry_cases b n other = go (ltb r b.len) refl
         inr (λ f. true≢false (sym (lt-ltb _ _ (f r h)) ∙ lowest_breaks (entry_below b.table n) b.len r refl h), refl)
     go false e = inl (λ k h. ltb-true _ _ (lowest_all (entry_below b.table n) b.len r refl (ltb-false r b.len e) k h), refl)
 
+-- What the search of a list for such an entry says.
+pub entry_bad : (b : Bag) (n : ℕ) {k : ℕ} → Some k ≡ first_bad (entry_below b.table n) b.len → verdict 1 k ≡ entry_found b n (verdict 0 0)
+unfolding entry_found
+entry_bad b n {k} e = let q = bad_some (entry_below b.table n) b.len e in rw (← q.1, lt-ltb k b.len q.0)
+
+pub entry_none : (b : Bag) (n : ℕ) → None ≡ first_bad (entry_below b.table n) b.len → verdict 0 0 ≡ entry_found b n (verdict 0 0)
+unfolding entry_found
+entry_none b n e = rw (le-ltb _ _ (bad_none (entry_below b.table n) b.len e))
+
 -- Where every entry of a list is below n, the verdict is the other.
 pub entry_all : (b : Bag) (n : ℕ) (other : Verdict) → Each (λ x. x < n) b → other ≡ entry_found b n other
 unfolding entry_found
 entry_all b n other f =
     rw (all_lowest (entry_below b.table n) b.len (first_from (entry_below b.table n) 0 b.len) refl (λ i h. lt-ltb _ _ (f i h)), le-ltb b.len b.len (omega arith))
+
+-- What a list says alone, it says before any other verdict: that it has such an entry, or nothing.
+pub entry_first : (b : Bag) (n : ℕ) (other : Verdict) {v : Verdict} → v ≡ entry_found b n (verdict 0 0) → (v.rule ≡ 0 → ⊥) → v ≡ entry_found b n other
+unfolding entry_found
+entry_first b n other {v} is f = go (ltb r b.len) is
+  where
+    r : ℕ
+    r = first_from (entry_below b.table n) 0 b.len
+
+    go : (t : Bool) → v ≡ pick t (verdict 1 r) (verdict 0 0) → v ≡ pick t (verdict 1 r) other
+    go true e = e
+    go false e = absurd (f (ap (λ (u : Verdict). u.rule) e))
+
+pub entry_passed : (b : Bag) (n : ℕ) (other : Verdict) → verdict 0 0 ≡ entry_found b n (verdict 0 0) → other ≡ entry_found b n other
+unfolding entry_found
+entry_passed b n other is = go (ltb r b.len) is
+  where
+    r : ℕ
+    r = first_from (entry_below b.table n) 0 b.len
+
+    go : (t : Bool) → verdict 0 0 ≡ pick t (verdict 1 r) (verdict 0 0) → other ≡ pick t (verdict 1 r) other
+    go true e = absurd (let z : ◌≡◌ {A = ℕ} 0 1 = ap (λ (u : Verdict). u.rule) e in omega arith)
+    go false e = refl
 
 -- Every entry of every list is below n and the verdict is 0, or one isn't and the verdict is rule 1.
 pub entries_cases : (l : Lists) (n : ℕ)

@@ -8,8 +8,7 @@ use Rattle.buckets.specs.FreeLists.{Lists, Within}
 use Rattle.steps.specs.State.{State}
 use Rattle.steps.specs.declared.Head.{Head}
 use Rattle.below.specs.Below.{first_from, entry_below}
-use Rattle.judged.specs.declared.Verdict.{Verdict}
-use Rattle.judged.specs.Verdicts.{verdict}
+use Rattle.judged.specs.Verdicts.{Verdict, verdict}
 
 -- Rule 1 without its last words: count, setup, lengths and root are in order.
 unfoldable pub numbers_hold : ℕ → ℕ → ℕ → ℕ → Head → Bool

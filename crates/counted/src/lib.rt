@@ -4,58 +4,43 @@
 ghost use Rattle.std.specs.Prelude.{◌≡◌, ◌≤◌, length};
 ghost use Rattle.lists.specs.Lists.{bag};
 ghost use Rattle.buckets.specs.FreeLists.{lists};
+ghost use Rattle.judged.specs.Verdicts.{verdict, verdict_of};
 ghost use Rattle.counted.specs.Numbers.{numbers_hold, entry_found, entries_found, EntriesReady};
 
 use buckets::Lengths;
-use judged::Verdict;
+use judged::{Broken, Rule};
 use steps::Head;
 
 // Rule 1 without its last words: count, setup, list lengths and root are in order.
+#[tactic(auto, unfolding(crate::specs::Numbers::numbers_hold))]
 pub fn numbers_hold(total: usize, small: usize, medium: usize, large: usize, head: Head) -> bool
     ensures { result ≡ numbers_hold total small medium large head }
 {
-    let n = head.count;
-    let lengths = head.lengths;
-    if n == 0 {
-        return false;
-    }
-    if n as usize > total {
-        return false;
-    }
-    if lengths.small > small {
-        return false;
-    }
-    if lengths.medium > medium {
-        return false;
-    }
-    if lengths.large > large {
-        return false;
-    }
-    let sheet = head.sheet;
-    let options = head.options;
-    if !geometry::is_valid(sheet, options) {
-        return false;
-    }
-    let root = head.root;
-    root.0 < n
+    head.count != 0
+        && head.count as usize <= total
+        && head.lengths.small <= small
+        && head.lengths.medium <= medium
+        && head.lengths.large <= large
+        && geometry::is_valid(head.sheet, head.options)
+        && head.root.0 < head.count
 }
 
-// Rule 1 broken at the lowest entry of a list that isn't below n, or another verdict where there is none.
-fn entry_found(list: &[u32], len: usize, n: u32, other: Verdict) -> Verdict
+// Rule 1 broken at the lowest entry of a list that isn't below n, if there is one.
+#[tactic(auto, unfolding(crate::specs::Numbers::entry_found))]
+fn entry_found(list: &[u32], len: usize, n: u32) -> Result<(), Broken>
     requires { (len ≤ length list.now) × (len ≤ 16384) }
-    ensures { result ≡ entry_found (bag list.now len) n other }
+    ensures { verdict_of result ≡ entry_found (bag list.now len) n (verdict 0 0) }
 {
     if below::all_below(list, len, n) {
-        return other;
+        return Ok(());
     }
-    let k = below::lowest_entry(list, len, n);
-    if k < len {
-        return Verdict {
-            rule: 1,
+    match below::lowest_entry(list, len, n) {
+        Some(k) => Err(Broken {
+            rule: Rule::Numbers,
             place: k as u32,
-        };
+        }),
+        None => Ok(()),
     }
-    other
 }
 
 // The last words of rule 1: every list entry is below n.
@@ -65,12 +50,11 @@ pub fn entries_found(
     large: &[u32],
     lengths: Lengths,
     n: u32,
-) -> Verdict
+) -> Result<(), Broken>
     requires { EntriesReady (lists lengths small.now medium.now large.now) }
-    ensures { result ≡ entries_found (lists lengths small.now medium.now large.now) n }
+    ensures { verdict_of result ≡ entries_found (lists lengths small.now medium.now large.now) n }
 {
-    let none = Verdict { rule: 0, place: 0 };
-    let c = entry_found(large, lengths.large, n, none);
-    let b = entry_found(medium, lengths.medium, n, c);
-    entry_found(small, lengths.small, n, b)
+    entry_found(small, lengths.small, n)?;
+    entry_found(medium, lengths.medium, n)?;
+    entry_found(large, lengths.large, n)
 }

@@ -3,7 +3,7 @@
 
 ghost use Rattle.std.specs.Prelude.{◌≡◌, ◌<◌};
 ghost use Rattle.sound.specs.Rules.{join};
-ghost use Rattle.joins.specs.Joins.{same_rect, adjoins, fits_together, out_of_slots, nothing_yet, own_place, stored_as, together, added};
+ghost use Rattle.joins.specs.Joins.{adjoins, fits_together, out_of_slots, nothing_yet, own_place, stored_as, together, added};
 
 use geometry::{Orientation, Rectangle};
 use slots::AllocIndex;
@@ -20,44 +20,14 @@ pub struct Placed {
     pub left: u32,
 }
 
-pub fn same_rect(r: Rectangle, s: Rectangle) -> bool
-    ensures { result ≡ same_rect r s }
-{
-    if r.x0 != s.x0 {
-        return false;
-    }
-    if r.y0 != s.y0 {
-        return false;
-    }
-    if r.x1 != s.x1 {
-        return false;
-    }
-    r.y1 == s.y1
-}
-
 // Whether s adjoins r along an orientation, with equal span across.
+#[tactic(auto, unfolding(crate::specs::Joins::adjoins))]
 fn adjoins(o: Orientation, r: Rectangle, s: Rectangle) -> bool
     ensures { result ≡ adjoins o r s }
 {
     match o {
-        Orientation::Vertical => {
-            if r.y1 != s.y0 {
-                return false;
-            }
-            if r.x0 != s.x0 {
-                return false;
-            }
-            r.x1 == s.x1
-        }
-        Orientation::Horizontal => {
-            if r.x1 != s.x0 {
-                return false;
-            }
-            if r.y0 != s.y0 {
-                return false;
-            }
-            r.y1 == s.y1
-        }
+        Orientation::Vertical => r.y1 == s.y0 && r.x0 == s.x0 && r.x1 == s.x1,
+        Orientation::Horizontal => r.x1 == s.x0 && r.y0 == s.y0 && r.y1 == s.y1,
     }
 }
 
@@ -79,12 +49,7 @@ pub fn out_of_slots() -> Placed
     Placed {
         ended: false,
         fits: false,
-        at: Rectangle {
-            x0: 0,
-            y0: 0,
-            x1: 0,
-            y1: 0,
-        },
+        at: geometry::no_rect(),
         stored: false,
         left: 0,
     }
@@ -97,14 +62,9 @@ pub fn nothing_yet(left: u32) -> Placed
     Placed {
         ended: false,
         fits: false,
-        at: Rectangle {
-            x0: 0,
-            y0: 0,
-            x1: 0,
-            y1: 0,
-        },
+        at: geometry::no_rect(),
         stored: false,
-        left: left,
+        left,
     }
 }
 
@@ -113,10 +73,9 @@ pub fn own_place(rect: Rectangle, left: u32) -> Placed
     requires { 0 < left }
     ensures { result ≡ own_place rect left }
 {
-    let empty = geometry::is_empty(rect);
     Placed {
         ended: true,
-        fits: !empty,
+        fits: !geometry::is_empty(rect),
         at: rect,
         stored: true,
         left: left - 1,
@@ -127,36 +86,26 @@ pub fn own_place(rect: Rectangle, left: u32) -> Placed
 fn fits_together(o: Orientation, a: Placed, b: Placed) -> bool
     ensures { result ≡ fits_together o a b }
 {
-    if !a.fits {
-        return false;
-    }
-    if !b.fits {
-        return false;
-    }
-    let r = a.at;
-    let s = b.at;
-    adjoins(o, r, s)
+    a.fits && b.fits && adjoins(o, a.at, b.at)
 }
 
 // The place of what was seen of a chain and the place of what comes after it, as one.
+#[tactic(auto, unfolding(crate::specs::Joins::together))]
 fn together(o: Orientation, a: Placed, b: Placed) -> Placed
     ensures { result ≡ together o a b }
 {
     if !b.ended {
         return b;
     }
-    let r = a.at;
-    let s = b.at;
     Placed {
-        ended: true,
         fits: fits_together(o, a, b),
-        at: joined(r, s),
-        stored: b.stored,
-        left: b.left,
+        at: joined(a.at, b.at),
+        ..b
     }
 }
 
 // One member more of a chain: the first has no prev.
+#[tactic(auto, unfolding(crate::specs::Joins::added))]
 pub fn added(o: Orientation, prev: AllocIndex, a: Placed, b: Placed) -> Placed
     ensures { result ≡ added o prev a b }
 {
@@ -167,15 +116,12 @@ pub fn added(o: Orientation, prev: AllocIndex, a: Placed, b: Placed) -> Placed
 }
 
 // A Container's place, with whether its stored rectangle is that.
+#[tactic(auto, unfolding(crate::specs::Joins::same_rect))]
 pub fn stored_as(p: Placed, rect: Rectangle) -> Placed
     ensures { result ≡ stored_as p rect }
 {
-    let at = p.at;
     Placed {
-        ended: p.ended,
-        fits: p.fits,
-        at: at,
-        stored: same_rect(at, rect),
-        left: p.left,
+        stored: p.at == rect,
+        ..p
     }
 }

@@ -14,8 +14,7 @@ use Rattle.links.specs.FirstLaws.{Firsts}
 use Rattle.links.specs.TestLaws.{Says}
 use Rattle.scans.specs.Tests.{filled_at, not_last_at}
 use Rattle.marks.specs.Marks.{listed_at}
-use Rattle.judged.specs.Verdicts.{lowest_bad, verdict}
-use Rattle.judged.specs.declared.Verdict.{Verdict}
+use Rattle.judged.specs.Verdicts.{Verdict, lowest_bad, verdict}
 
 -- A rule broken at the lowest place that fails its test.
 abbrev pub broken_at : ℕ → ℕ → ℕ → Verdict

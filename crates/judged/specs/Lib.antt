@@ -1,3 +1,4 @@
 pub mod JudgeLaws
 pub mod Judged
 pub mod Verdicts
+pub mod VerdictLaws

@@ -2,61 +2,53 @@
 #![tactic(auto)]
 
 ghost use Rattle.std.specs.Prelude.{◌≡◌, true};
-ghost use Rattle.judged.specs.Judged.{broken_at, is_whole, is_filled, whole, Prepared, Walked, Judged};
+ghost use Rattle.judged.specs.Verdicts.{rule_of, place_of};
+ghost use Rattle.judged.specs.Judged.{is_whole, is_filled, whole, Prepared, Walked, Judged};
 
 use geometry::{Rectangle, Setup};
 use joins::Placed;
-use scans::Test;
 use slots::AllocIndex;
 
-// What the check found: the lowest-numbered rule that is broken, 0 for none, and the lowest place that breaks it, 0 where no single place does.
-#[derive(Clone, Copy)]
-pub struct Verdict {
-    pub rule: u32,
+// The rules of sound tables, by their numbers.
+#[derive(Clone, Copy, Debug, PartialEq, Eq)]
+pub enum Rule {
+    // Count, setup, list lengths, root and list entries are in range.
+    Numbers = 1,
+    // The spare chain is the Unused slots.
+    SpareChain = 2,
+    // The live slots' links agree and join them to the root.
+    Links = 3,
+    // No Free slot is beside a Free one, or alone under a parent.
+    Merging = 4,
+    // The places adjoin and fill the sheet.
+    Places = 5,
+    // Each Free slot has an entry in its list.
+    Lists = 6,
+    // The last slot of the top chain has its place stored.
+    Last = 7,
+}
+
+// What the check found: the lowest-numbered rule that is broken, and the lowest place that breaks it, 0 where no single place does.
+#[derive(Clone, Copy, Debug, PartialEq, Eq)]
+pub struct Broken {
+    pub rule: Rule,
     pub place: u32,
 }
 
-// A rule broken at the lowest place that fails its test, or at no single place if none does.
-pub fn broken(rule: u32, bad: u32, n: u32) -> Verdict
-    ensures { result ≡ broken_at rule bad n }
-{
-    if bad < n {
-        return Verdict {
-            rule: rule,
-            place: bad,
-        };
-    }
-    Verdict {
-        rule: rule,
-        place: 0,
-    }
-}
-
 // Whether a walk from the root came to its end with nothing of the count left.
+#[tactic(auto, unfolding(crate::specs::Judged::is_whole))]
 pub fn is_whole(p: Placed) -> bool
     ensures { result ≡ is_whole p }
 {
-    if !p.ended {
-        return false;
-    }
-    p.left == 0
+    p.ended && p.left == 0
 }
 
 // Whether what a walk saw fits together and fills the sheet.
+#[tactic(auto, unfolding(crate::specs::Judged::is_filled, joins::specs::Joins::same_rect))]
 pub fn is_filled(p: Placed, setup: Setup) -> bool
     ensures { result ≡ is_filled p (whole setup) }
 {
-    if !p.fits {
-        return false;
-    }
-    let at = p.at;
-    let sheet = Rectangle {
-        x0: 0,
-        y0: 0,
-        x1: setup.sheet.width,
-        y1: setup.sheet.height,
-    };
-    joins::same_rect(at, sheet)
+    p.fits && p.at == Rectangle::from(setup.sheet)
 }
 
 // Rules 4 to 7, where rule 3 holds and it is known whether the top chain fills the sheet, and if so whether its last slot obeys rule 7.
@@ -69,27 +61,37 @@ pub fn audit_linked(
     setup: Setup,
     filled: bool,
     stored: bool,
-) -> Verdict
+) -> Result<(), Broken>
     requires { Prepared words.now firsts.now marks.now n root.0 × Walked words.now n root.0 (whole setup) filled stored }
-    ensures { Judged words.now firsts.now marks.now n root.0 setup result.rule result.place }
+    ensures { Judged words.now firsts.now marks.now n root.0 setup (rule_of result) (place_of result) }
 {
-    let apart = scans::lowest(Test::Merged, words, firsts, marks, n, root, setup);
-    if apart < n {
-        return broken(4, apart, n);
+    if let Some(place) = scans::lowest(n, |i| scans::merged_at(words, n, i)) {
+        return Err(Broken {
+            rule: Rule::Merging,
+            place,
+        });
     }
     if !filled {
-        let empty = scans::lowest(Test::Filled, words, firsts, marks, n, root, setup);
-        return broken(5, empty, n);
+        let empty = scans::lowest(n, |i| scans::filled_at(words, i));
+        return Err(Broken {
+            rule: Rule::Places,
+            place: empty.unwrap_or(0),
+        });
     }
-    let unlisted = scans::lowest(Test::Listed, words, firsts, marks, n, root, setup);
-    if unlisted < n {
-        return broken(6, unlisted, n);
+    if let Some(place) = scans::lowest(n, |i| scans::listed_at(words, marks, setup, i)) {
+        return Err(Broken {
+            rule: Rule::Lists,
+            place,
+        });
     }
     if stored {
-        return Verdict { rule: 0, place: 0 };
+        return Ok(());
     }
-    let last = scans::lowest(Test::NotLast, words, firsts, marks, n, root, setup);
-    broken(7, last, n)
+    let last = scans::lowest(n, |i| scans::not_last_at(words, n, i));
+    Err(Broken {
+        rule: Rule::Last,
+        place: last.unwrap_or(0),
+    })
 }
 
 // Whether rules 4 to 7 hold, where rule 3 does. This asks rules 4 and 6 of each slot at once, and finds no place.
@@ -106,12 +108,5 @@ pub fn all_hold(
     requires { Prepared words.now firsts.now marks.now n root.0 × Walked words.now n root.0 (whole setup) filled stored }
     ensures { result ≡ true → Judged words.now firsts.now marks.now n root.0 setup 0 0 }
 {
-    if !filled {
-        return false;
-    }
-    if !stored {
-        return false;
-    }
-    let loose = scans::lowest(Test::Settled, words, firsts, marks, n, root, setup);
-    loose >= n
+    filled && stored && scans::lowest(n, |i| scans::settled_at(words, marks, n, setup, i)).is_none()
 }

@@ -8,15 +8,11 @@ ghost use Rattle.lone.specs.Lone.{lone_free};
 use slots::{AllocIndex, NodeKind};
 
 // Whether the root is Free and has no next.
+#[tactic(auto, unfolding(crate::specs::Lone::lone_free))]
 pub fn is_lone(words: &[u32], root: AllocIndex) -> bool
     requires { HasSlot words.now root }
     ensures { result ≡ lone_free words.now root }
 {
     let node = table::node_at(words, root);
-    let kind = node.kind;
-    if !slots::same_kind(kind, NodeKind::Free) {
-        return false;
-    }
-    let next = node.next;
-    slots::is_none(next)
+    node.kind == NodeKind::Free && slots::is_none(node.next)
 }

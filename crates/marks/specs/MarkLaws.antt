@@ -1,14 +1,14 @@
 -- The marks: which slots the lists mark.
 -- Assumes nothing.
-use Rattle.std.specs.Prelude.{◌≡◌, Bool, ◌&&◌, ◌||◌, not, length, set, replicate, eqb}
+use Rattle.std.specs.Prelude.{◌≡◌, Bool, ◌&&◌, ◌||◌, not, length, set, take, replicate, eqb}
 use Rattle.std.proofs.Math.Path.{refl}
-use Rattle.std.proofs.Common.{ap, sym, ◌∙◌, add-one, arith, get_or-set_same, get_or-set_other, eqb-true}
+use Rattle.std.proofs.Common.{length-take-le, ap, sym, ◌∙◌, add-one, arith, get_or-set_same, get_or-set_other, eqb-true}
 use Rattle.std.proofs.Math.Bool.{true, false}
 use Rattle.std.proofs.lemmas.Bool.{false≢true, eqb-false}
 use mathlib.Core.List.{List}
 use Prim.Native.Nat.{ℕ, zero, suc, ◌+◌, ◌<◌, ◌≤◌}
 use Rattle.std.proofs.Math.ListN.{get_or, length-set}
-use Rattle.std.proofs.lemmas.List.{length-replicate, get_or-replicate}
+use Rattle.std.proofs.lemmas.List.{length-replicate, get_or-replicate, get_or-take}
 use Rattle.geometry.specs.Buckets.{rank}
 use Rattle.geometry.specs.declared.Bucket.{Bucket}
 use Rattle.geometry.specs.declared.Bucket.TheVariants.{Small, Medium, Large}
@@ -16,6 +16,12 @@ use Rattle.lists.specs.Lists.{bag, Each, occurs}
 use Rattle.buckets.specs.FreeLists.{Lists, list_of}
 use Rattle.links.specs.TestLaws.{Says}
 use Rattle.marks.specs.Marks.{marks_start, is_marked, marks_to, marks_from, marks_of, ListsReady}
+
+-- An entry of the front of a list is the list's.
+pub front_entry : (t : List ℕ) (len k : ℕ) → len ≤ length t → k < length (take len t) → (k < len) × (get_or (take len t) k 0 ≡ get_or t k 0)
+front_entry t len k h l =
+    let i : k < len = omega (arith, length-take-le len t h) in
+    (i, get_or-take len t k 0 i)
 
 -- One more entry.
 pub marks_more : (s : ℕ) (t ms ns : List ℕ) (k : ℕ) → ns ≡ marks_to s t k ms → set ns (s + get_or t k 0) 1 ≡ marks_to s t (k + 1) ms

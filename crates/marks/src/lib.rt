@@ -15,15 +15,13 @@ use slots::{AllocIndex, NodeKind};
 fn side(from: u32, to: u32) -> u32
     ensures { result ≡ to - from }
 {
-    if from < to {
-        return to - from;
-    }
-    0
+    to.saturating_sub(from)
 }
 
 // Where a bucket's marks start: each has 4,096, one after the other.
+#[tactic(auto, unfolding(crate::specs::Marks::marks_start))]
 fn marks_start(b: Bucket) -> usize
-    ensures { result ≡ marks_start b }
+    ensures { (result ≡ marks_start b) × (result ≤ 8192) }
 {
     match b {
         Bucket::Small => 0,
@@ -33,24 +31,23 @@ fn marks_start(b: Bucket) -> usize
 }
 
 // Rule 6 of slot i: a Free slot has its own bucket's mark.
+#[tactic(auto, unfolding(crate::specs::Marks::listed_at))]
 pub fn listed_at(words: &[u32], marks: &[u8], setup: Setup, i: AllocIndex) -> bool
     requires { HasSlot words.now i × (12288 ≤ length marks.now) × (i.0 < 4096) }
     ensures { result ≡ listed_at words.now marks.now setup i.0 }
 {
     let node = table::node_at(words, i);
-    let kind = node.kind;
-    let rect = node.rect;
-    if !slots::same_kind(kind, NodeKind::Free) {
+    if node.kind != NodeKind::Free {
         return true;
     }
+    let rect = node.rect;
     let own = geometry::free_list_for_size(
         setup.small,
         setup.large,
         side(rect.x0, rect.x1),
         side(rect.y0, rect.y1),
     );
-    let at = marks_start(own) + (i.0 as usize);
-    marks[at] != 0
+    marks[marks_start(own) + i.0 as usize] != 0
 }
 
 // Marks every slot that has an entry in this bucket's list.
@@ -59,16 +56,13 @@ fn mark_list(marks: &mut [u8], bucket: Bucket, list: &[u32], len: usize)
     ensures { marks.new ≡ marks_to (marks_start bucket) list.now len marks.old }
 {
     let start = marks_start(bucket);
-    let mut k = 0;
-    while k < len {
-        let x = list[k];
-        let at = start + (x as usize);
-        marks[at] = 1;
-        k += 1;
+    for x in &list[..len] {
+        marks[start + *x as usize] = 1;
     }
 }
 
 // Marks, for each bucket, every slot that has an entry in its list.
+#[tactic(auto, unfolding(crate::specs::Marks::marks_from))]
 pub fn mark_lists(marks: &mut [u8], small: &[u32], medium: &[u32], large: &[u32], lengths: Lengths)
     requires { ListsReady (lists lengths small.now medium.now large.now) × (12288 ≤ length marks.old) }
     ensures { marks.new

@@ -4,7 +4,7 @@ use Rattle.std.specs.Prelude.{◌≡◌, ◌↔◌, Bool, ◌&&◌, not, List, �
 use Rattle.std.proofs.Math.Path.{refl, ap}
 use Rattle.std.proofs.Common.{sym, ◌∙◌, arith, eq-eqb, ne_eqb}
 use Rattle.std.proofs.Math.Bool.{true, false}
-use Rattle.std.proofs.lemmas.Bool.{false≢true}
+use Rattle.std.proofs.lemmas.Bool.{false≢true, eqb-false}
 use Rattle.geometry.specs.Choice.{pick}
 use Rattle.geometry.specs.Rectangles.{flip, empty_rect}
 use Rattle.geometry.specs.TestLaws.{and_true_each}
@@ -31,6 +31,10 @@ use Rattle.standing.specs.Standing.{stands_as, is_lone, lone_at, held_by}
 use Rattle.places.specs.Places.{kids_at, next_at, Ready, Held, Fitting, Standing, StoredAt, AtLast, StoredF, Chained, Contained, Slotted, Lined}
 use Rattle.places.proofs.PlaceLaws.{clash, adjoins_true, true_adjoins, follows_one, slot_one, place_one, own_fits, last_fits, chain_fits, same_rect_says}
 use Rattle.joins.specs.declared.Placed.{Placed}
+
+-- A link that the test says is not none.
+pub some_slot : {b : Bool} {l : AllocIndex} → b ≡ is_none l → b ≡ false → l.0 ≡ 4294967295 → ⊥
+some_slot {l = l} e h = eqb-false l.0 4294967295 (sym e ∙ h)
 
 -- The contents m of slot i, as the code read them.
 module _ (w : List ℕ) (i : ℕ) {m : Node} (e : m ≡ node_at w (slots.slot i)) where

@@ -23,28 +23,23 @@ fn line_below(words: &[u32], firsts: &[u32], i: AllocIndex, o: Orientation, left
     requires { Ready words.now firsts.now × (i.0 < length firsts.now) }
     ensures { Lined words.now firsts.now i.0 o left result.at.0 result.along result.left }
 {
-    let mut above = i;
-    let mut along = o;
-    let mut rest = left;
-    while rest > 0 {
-        let at = above.0 as usize;
-        let c = AllocIndex(firsts[at]);
-        if !standing::lone_at(words, firsts.len(), c, above, along) {
-            return Line {
-                at: above,
-                along: along,
-                left: rest,
-            };
+    let mut line = Line {
+        at: i,
+        along: o,
+        left,
+    };
+    while line.left > 0 {
+        let child = AllocIndex(firsts[line.at.0 as usize]);
+        if !standing::lone_at(words, firsts.len(), child, line.at, line.along) {
+            break;
         }
-        above = c;
-        along = geometry::flipped(along);
-        rest -= 1;
+        line = Line {
+            at: child,
+            along: geometry::flipped(line.along),
+            left: line.left - 1,
+        };
     }
-    Line {
-        at: above,
-        along: along,
-        left: rest,
-    }
+    line
 }
 
 // The place of slot i, with what is below it.
@@ -53,14 +48,12 @@ fn place_of_slot(words: &[u32], firsts: &[u32], i: AllocIndex, node: Node, left:
     requires { Ready words.now firsts.now × Held words.now firsts.now i.0 node left }
     ensures { Slotted words.now firsts.now i.0 node.orientation left result }
 {
-    let kind = node.kind;
-    let rect = node.rect;
-    if !slots::same_kind(kind, NodeKind::Container) {
-        return joins::own_place(rect, left);
+    if node.kind != NodeKind::Container {
+        return joins::own_place(node.rect, left);
     }
-    let o = node.orientation;
-    let p = place_of_container(words, firsts, i, geometry::flipped(o), left - 1);
-    joins::stored_as(p, rect)
+    let along = geometry::flipped(node.orientation);
+    let p = place_of_container(words, firsts, i, along, left - 1);
+    joins::stored_as(p, node.rect)
 }
 
 // The place of a Container: that of its chain of children, which run along o.
@@ -76,17 +69,8 @@ fn place_of_container(
     ensures { Contained words.now firsts.now i.0 o left result }
 {
     let line = line_below(words, firsts, i, o, left);
-    let above = line.at;
-    let along = line.along;
-    let at = above.0 as usize;
-    place_of_chain(
-        words,
-        firsts,
-        AllocIndex(firsts[at]),
-        above,
-        along,
-        line.left,
-    )
+    let first = AllocIndex(firsts[line.at.0 as usize]);
+    place_of_chain(words, firsts, first, line.at, line.along, line.left)
 }
 
 // The place of the chain that starts at slot first, under parent, along o. firsts has the first child of each Container below its length.
@@ -104,24 +88,22 @@ pub fn place_of_chain(
     ensures { Chained words.now firsts.now first.0 (link_of parent) none o left result }
 {
     let mut at = first;
-    let mut prev = AllocIndex(slots::NONE);
+    let mut prev = slots::NONE;
     let mut sum = joins::nothing_yet(left);
-    while at.0 != slots::NONE {
-        let i = at;
-        let rest = sum.left;
-        if !standing::is_held(firsts.len(), i, rest) {
+    while !slots::is_none(at) {
+        if !standing::is_held(firsts.len(), at, sum.left) {
             return joins::out_of_slots();
         }
-        let node = table::node_at(words, i);
+        let node = table::node_at(words, at);
         if !standing::stands(node, parent, prev, o) {
             return joins::out_of_slots();
         }
-        let p = place_of_slot(words, firsts, i, node, rest);
+        let p = place_of_slot(words, firsts, at, node, sum.left);
         if !p.ended {
             return p;
         }
         sum = joins::added(o, prev, sum, p);
-        prev = i;
+        prev = at;
         at = node.next;
     }
     sum

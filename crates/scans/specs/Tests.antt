@@ -1,16 +1,15 @@
 -- The tests that the check makes of each slot.
 -- Assumes nothing.
-use Rattle.std.specs.Prelude.{Bool, true, ◌&&◌, ◌||◌, not, List, ℕ}
+use Rattle.std.specs.Prelude.{◌≡◌, Bool, true, ◌&&◌, ◌||◌, not, List, ℕ, ◌<◌}
 use Rattle.geometry.specs.Rectangles.{empty_rect}
 use Rattle.geometry.specs.declared.Rectangle.{Rectangle}
 use Rattle.geometry.specs.declared.Setup.{Setup}
 use Rattle.slots.specs.Slots.{slot, is_none}
 use Rattle.table.specs.Table.{node_at}
+use Rattle.slots.specs.declared.AllocIndex.{AllocIndex}
 use Rattle.slots.specs.declared.NodeKind.{NodeKind}
 use Rattle.slots.specs.declared.NodeKind.TheVariants.{Container, Alloc, Free, Unused}
-use Rattle.links.specs.Links.{live_at, links_at, merged_at}
-use Rattle.scans.specs.declared.Test.{Test}
-use Rattle.scans.specs.declared.Test.TheVariants.{Links, Merged, Filled, Listed, NotLast, Settled}
+use Rattle.links.specs.Links.{live_at, merged_at}
 use Rattle.marks.specs.Marks.{listed_at}
 
 -- The rectangle of an Alloc or Free slot is never empty.
@@ -31,11 +30,6 @@ not_last_at w n i = not (live_at w n i) || (not (is_none (node_at w (slot i)).pa
 unfoldable pub settled_at : List ℕ → List ℕ → ℕ → Setup → ℕ → Bool
 settled_at w ms n u i = merged_at w n i && listed_at w ms u i
 
--- One test of one slot.
-unfoldable pub holds_at : Test → List ℕ → List ℕ → List ℕ → ℕ → ℕ → Setup → ℕ → Bool
-holds_at Links w fs ms n root u i = links_at w fs n root i
-holds_at Merged w fs ms n root u i = merged_at w n i
-holds_at Filled w fs ms n root u i = filled_at w i
-holds_at Listed w fs ms n root u i = listed_at w ms u i
-holds_at NotLast w fs ms n root u i = not_last_at w n i
-holds_at Settled w fs ms n root u i = settled_at w ms n u i
+-- What is called computes a test of the first n slots.
+abbrev pub Computes : (AllocIndex → Bool → Type 0) → ℕ → (ℕ → Bool) → Type 0
+Computes post n p = (i : ℕ) → i < n → (b : Bool) → post (slot i) b → b ≡ p i

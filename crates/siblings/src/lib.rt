@@ -7,45 +7,31 @@ ghost use Rattle.links.specs.Links.{next_agrees, prev_agrees, siblings_agree, Na
 use slots::{AllocIndex, Node};
 
 // Next and prev agree, and siblings share parent and orientation.
+#[tactic(auto, unfolding(links::specs::Links::next_agrees))]
 fn next_agrees(words: &[u32], i: AllocIndex, node: Node) -> bool
     requires { NamesSlot words.now node.next }
     ensures { result ≡ next_agrees words.now i.0 node }
 {
-    let next = node.next;
-    if slots::is_none(next) {
+    if slots::is_none(node.next) {
         return true;
     }
-    let other = table::node_at(words, next);
-    if other.prev.0 != i.0 {
-        return false;
-    }
-    if other.parent.0 != node.parent.0 {
-        return false;
-    }
-    let a = other.orientation;
-    let b = node.orientation;
-    slots::same_orientation(a, b)
+    let other = table::node_at(words, node.next);
+    other.prev == i && other.parent == node.parent && other.orientation == node.orientation
 }
 
+#[tactic(auto, unfolding(links::specs::Links::prev_agrees))]
 fn prev_agrees(words: &[u32], i: AllocIndex, node: Node) -> bool
     requires { NamesSlot words.now node.prev }
     ensures { result ≡ prev_agrees words.now i.0 node }
 {
-    let prev = node.prev;
-    if slots::is_none(prev) {
-        return true;
-    }
-    let other = table::node_at(words, prev);
-    other.next.0 == i.0
+    slots::is_none(node.prev) || table::node_at(words, node.prev).next == i
 }
 
 // A slot agrees with its next and its prev.
+#[tactic(auto, unfolding(links::specs::Links::siblings_agree))]
 pub fn siblings_agree(words: &[u32], i: AllocIndex, node: Node) -> bool
     requires { NamesSlot words.now node.next × NamesSlot words.now node.prev }
     ensures { result ≡ siblings_agree words.now i.0 node }
 {
-    if !next_agrees(words, i, node) {
-        return false;
-    }
-    prev_agrees(words, i, node)
+    next_agrees(words, i, node) && prev_agrees(words, i, node)
 }

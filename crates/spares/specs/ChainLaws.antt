@@ -1,20 +1,18 @@
 -- The chain of Unused slots has as many slots as there are: so a few steps along it tell whether enough are spare.
 -- Assumes nothing.
-use Rattle.std.specs.Prelude.{◌≡◌, refl, Bool, false, List, leb, ltb}
+use Rattle.std.specs.Prelude.{◌≡◌, refl, Bool, false, List, leb}
 use Rattle.std.proofs.Math.Path.{sym}
-use Rattle.std.proofs.Common.{ap, ◌∙◌, add-one}
+use Rattle.std.proofs.Common.{◌∙◌}
 use Rattle.std.proofs.Math.Bool.{true}
-use Prim.Native.Nat.{ℕ, zero, suc, ◌+◌, ◌-◌, ◌*◌, ◌≤◌, ◌<◌}
+use Prim.Native.Nat.{ℕ, zero, suc, ◌-◌, ◌≤◌, ◌<◌}
 use native.Mathlib.Omega.{arith}
 use borrow.Author.Tests.{eqb-true, leb-true, leb-false, lt-ltb, le-ltb, le-leb, lt-leb}
-use Rattle.geometry.specs.Choice.{pick}
 use Rattle.table.specs.Table.{node_at}
 use Rattle.slots.specs.Slots.{is_none}
 use Rattle.slots.specs.declared.AllocIndex.{AllocIndex}
 use Rattle.steps.specs.Spares.{unused_below, spare_slots}
-use Rattle.sound.specs.View.{Link, none, to, link_of, seen}
+use Rattle.sound.specs.View.{link_of, seen}
 use Rattle.sound.specs.Rules.{Visits, it, later}
-use Rattle.sound.specs.Sound.{SpareChain}
 use Rattle.forest.specs.Ends.{EndsIn}
 use Rattle.forest.specs.Spare.{spare_steps}
 use Rattle.links.specs.LinkLaws.{link_none, link_names}

@@ -13,14 +13,11 @@ fn chain_has(words: &[u32], n: u32, spare: AllocIndex, k: u32) -> bool
     ensures { result ≡ chain_has words.now n k spare }
 {
     let mut at = spare;
-    let mut left = k;
-    while left > 0 {
+    for _ in 0..k {
         if at.0 >= n {
             return false;
         }
-        let node = table::node_at(words, at);
-        at = node.next;
-        left -= 1;
+        at = table::node_at(words, at).next;
     }
     true
 }
@@ -31,8 +28,5 @@ pub fn has_spare_slots(words: &[u32], total: u32, spare: AllocIndex, n: u32, nee
     ensures { result ≡ leb need (spare_slots words.now total n) }
 {
     let room = total - n;
-    if need <= room {
-        return true;
-    }
-    chain_has(words, n, spare, need - room)
+    need <= room || chain_has(words, n, spare, need - room)
 }

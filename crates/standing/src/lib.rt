@@ -8,56 +8,39 @@ use geometry::Orientation;
 use slots::{AllocIndex, Node, NodeKind};
 
 // Whether a slot in use has this parent, this prev and this orientation.
+#[tactic(auto, unfolding(crate::specs::Standing::stands_as))]
 pub fn stands(node: Node, parent: AllocIndex, prev: AllocIndex, o: Orientation) -> bool
     ensures { result ≡ stands_as node parent prev o }
 {
-    if node.parent.0 != parent.0 {
-        return false;
-    }
-    if node.prev.0 != prev.0 {
-        return false;
-    }
-    let own = node.orientation;
-    let kind = node.kind;
-    if !slots::same_orientation(own, o) {
-        return false;
-    }
-    !slots::same_kind(kind, NodeKind::Unused)
+    node.parent == parent
+        && node.prev == prev
+        && node.orientation == o
+        && node.kind != NodeKind::Unused
 }
 
 // Whether a slot is the only child of this parent, and a Container.
+#[tactic(auto, unfolding(crate::specs::Standing::is_lone))]
 fn is_lone(node: Node, parent: AllocIndex, o: Orientation) -> bool
     ensures { result ≡ is_lone node parent o }
 {
-    let own = node.kind;
-    let next = node.next;
-    if !slots::same_kind(own, NodeKind::Container) {
-        return false;
-    }
-    if !slots::is_none(next) {
-        return false;
-    }
-    stands(node, parent, AllocIndex(slots::NONE), o)
+    node.kind == NodeKind::Container
+        && slots::is_none(node.next)
+        && stands(node, parent, slots::NONE, o)
 }
 
 // Whether slot c, if it is one of n, is that.
+#[tactic(auto, unfolding(crate::specs::Standing::lone_at))]
 pub fn lone_at(words: &[u32], n: usize, c: AllocIndex, parent: AllocIndex, o: Orientation) -> bool
     requires { n * 8 ≤ length words.now }
     ensures { result ≡ lone_at words.now n c parent o }
 {
-    if c.0 as usize >= n {
-        return false;
-    }
-    let node = table::node_at(words, c);
-    is_lone(node, parent, o)
+    (c.0 as usize) < n && is_lone(table::node_at(words, c), parent, o)
 }
 
 // Whether slot i is one of n, and the count has a slot left for it.
+#[tactic(auto, unfolding(crate::specs::Standing::held_by))]
 pub fn is_held(n: usize, i: AllocIndex, left: u32) -> bool
     ensures { result ≡ held_by n i.0 left }
 {
-    if i.0 as usize >= n {
-        return false;
-    }
-    left > 0
+    (i.0 as usize) < n && left > 0
 }

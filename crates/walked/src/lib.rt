@@ -7,11 +7,11 @@ ghost use Rattle.geometry.specs.Sides.{setup_of};
 ghost use Rattle.steps.specs.Spares.{unused_below};
 ghost use Rattle.marks.specs.Marks.{marks_of};
 ghost use Rattle.walked.specs.Trees.{firsts_of, TreeReady};
+ghost use Rattle.judged.specs.Verdicts.{rule_of, place_of};
 ghost use Rattle.judged.specs.Judged.{Prepared, Judged};
 
 use geometry::Setup;
-use judged::Verdict;
-use scans::Test;
+use judged::{Broken, Rule};
 use slots::AllocIndex;
 use steps::Head;
 
@@ -24,23 +24,24 @@ fn audit_marked(
     root: AllocIndex,
     setup: Setup,
     live: u32,
-) -> Verdict
+) -> Result<(), Broken>
     requires { Prepared words.now firsts.now marks.now n root.0 × (live ≡ n - unused_below words.now n) }
-    ensures { Judged words.now firsts.now marks.now n root.0 setup result.rule result.place }
+    ensures { Judged words.now firsts.now marks.now n root.0 setup (rule_of result) (place_of result) }
 {
     let top = table::node_at(words, root);
-    let o = top.orientation;
-    let p = places::place_of_chain(words, firsts, root, AllocIndex(slots::NONE), o, live);
+    let p = places::place_of_chain(words, firsts, root, slots::NONE, top.orientation, live);
     if !judged::is_whole(p) {
-        let astray = scans::lowest(Test::Links, words, firsts, marks, n, root, setup);
-        return judged::broken(3, astray, n);
+        let astray = scans::lowest(n, |i| scans::links_at(words, firsts, n, root, i));
+        return Err(Broken {
+            rule: Rule::Links,
+            place: astray.unwrap_or(0),
+        });
     }
     let filled = judged::is_filled(p, setup);
-    let stored = p.stored;
-    if judged::all_hold(words, firsts, marks, n, root, setup, filled, stored) {
-        return Verdict { rule: 0, place: 0 };
+    if judged::all_hold(words, firsts, marks, n, root, setup, filled, p.stored) {
+        return Ok(());
     }
-    judged::audit_linked(words, firsts, marks, n, root, setup, filled, stored)
+    judged::audit_linked(words, firsts, marks, n, root, setup, filled, p.stored)
 }
 
 // Rules 3 to 7. Makes the table of first children and the marks.
@@ -51,19 +52,25 @@ pub fn audit_tree(
     large: &[u32],
     head: Head,
     live: u32,
-) -> Verdict
+) -> Result<(), Broken>
     requires { TreeReady words.now (lists head.lengths small.now medium.now large.now) head.count head.root.0 live }
     ensures { Judged words.now (firsts_of words.now head.count)
         (marks_of (lists head.lengths small.now medium.now large.now))
-        head.count head.root.0 (setup_of head.sheet head.options) result.rule result.place }
+        head.count head.root.0 (setup_of head.sheet head.options) (rule_of result) (place_of result) }
 {
     let n = head.count;
-    let lengths = head.lengths;
     let setup = geometry::setup_of(head.sheet, head.options);
     let mut firsts = [4294967295u32; 4096];
     let mut marks = [0u8; 12288];
     firsts::enter_firsts(words, &mut firsts, n);
-    marks::mark_lists(&mut marks, small, medium, large, lengths);
-    let top = n as usize;
-    audit_marked(words, &firsts[..top], &marks, n, head.root, setup, live)
+    marks::mark_lists(&mut marks, small, medium, large, head.lengths);
+    audit_marked(
+        words,
+        &firsts[..n as usize],
+        &marks,
+        n,
+        head.root,
+        setup,
+        live,
+    )
 }

@@ -1,14 +1,9 @@
-use mathlib.Core.Path.{sym, ◌∙◌}
-use native.Mathlib.Omega.{arith}
-use borrow.Author.Tests.{lt-ltb, le-ltb}
-use Rattle.below.specs.FirstLaws.{scan_on, scan_here, scan_end}
+use lib.ListN.{take}
+use borrow.Author.Rules.{rules}
+use Rattle.below.specs.FirstLaws.{Found, found_bad}
 use Rattle.below.proofs.lowest_entry.Goals as goal
 
-pub returns-then-list-k : goal.returns-then-list-k
-returns-then-list-k c = sym (scan_here _ _ _ c.loop-k-test.true (le-ltb _ _ c.if-list-k.true)) ∙ c.loop-k.invariant.1
-
-pub loop-k-preserved : goal.loop-k-preserved
-loop-k-preserved c = (omega arith, sym (scan_on _ _ _ c.loop-k-test.true (lt-ltb _ _ c.if-list-k.false)) ∙ c.loop-k.invariant.1)
-
 pub returns : goal.returns
-returns c = sym (scan_end _ _ _ c.loop-k-test.false) ∙ c.loop-k.invariant.1
+returns c =
+    let h : Found (take c.args.len c.args.list.now) c.args.n c.position.result = search rules in
+    found_bad _ _ _ c.requires _ h

@@ -1,17 +1,44 @@
-use Rattle.judged.specs.JudgeLaws.{judge_split, judge_unfilled, judge_unlisted, judge_sound, judge_last}
+use mathlib.Core.Path.{◌≡◌}
+use borrow.Author.Rules.{rules}
+use Rattle.std.proofs.Common.{Some, None}
+use Rattle.below.specs.Below.{first_bad}
+use Rattle.links.specs.Links.{merged_at}
+use Rattle.marks.specs.Marks.{listed_at}
+use Rattle.scans.specs.Tests.{filled_at, not_last_at}
+use Rattle.judged.specs.JudgeLaws.{split_found, unfilled_found, unlisted_found, sound_found, last_found}
 use Rattle.judged.proofs.audit_linked.Goals as goal
 
-pub returns-then-apart-n : goal.returns-then-apart-n
-returns-then-apart-n c = let p = c.requires in judge_split _ _ _ _ _ _ p.0 p.1 c.lowest-apart.ensures c.broken.ensures c.if-apart-n.true
+pub returns-in-Some : goal.returns-in-Some
+returns-in-Some c =
+    let p = c.requires in
+    let a : Some c.in-Some.place ≡ first_bad (merged_at c.args.words.now c.args.n) c.args.n = search rules in
+    split_found _ _ _ _ _ _ p.0 p.1 a
 
 pub returns-then-not-filled : goal.returns-then-not-filled
-returns-then-not-filled c = let p = c.requires in judge_unfilled _ _ _ _ _ _ p.0 p.1 c.lowest-apart.ensures c.if-apart-n.false (c.if-not-filled.true) c.lowest-empty.ensures c.broken-then-not-filled.ensures
+returns-then-not-filled c =
+    let p = c.requires in
+    let a : None ≡ first_bad (merged_at c.args.words.now c.args.n) c.args.n = search rules in
+    let b : c.lowest-empty.result ≡ first_bad (filled_at c.args.words.now) c.args.n = search rules in
+    rw c.unwrap_or.ensures (unfilled_found _ _ _ _ _ _ p.0 p.1 a c.if-not-filled.true b)
 
-pub returns-then-unlisted-n : goal.returns-then-unlisted-n
-returns-then-unlisted-n c = let p = c.requires in judge_unlisted _ _ _ _ _ _ p.0 p.1 c.lowest-apart.ensures c.if-apart-n.false (c.if-not-filled.false) c.lowest-unlisted.ensures c.broken-then-unlisted-n.ensures c.if-unlisted-n.true
+pub returns-in-Some-lowest : goal.returns-in-Some-lowest
+returns-in-Some-lowest c =
+    let p = c.requires in
+    let a : None ≡ first_bad (merged_at c.args.words.now c.args.n) c.args.n = search rules in
+    let l : Some c.in-Some-lowest.place ≡ first_bad (listed_at c.args.words.now c.args.marks.now c.args.setup) c.args.n = search rules in
+    unlisted_found _ _ _ _ _ _ p.0 p.1 a c.if-not-filled.false l
 
 pub returns-then-stored : goal.returns-then-stored
-returns-then-stored c = let p = c.requires in judge_sound _ _ _ _ _ _ p.0 p.1 c.lowest-apart.ensures c.if-apart-n.false (c.if-not-filled.false) c.lowest-unlisted.ensures c.if-unlisted-n.false c.if-stored.true
+returns-then-stored c =
+    let p = c.requires in
+    let a : None ≡ first_bad (merged_at c.args.words.now c.args.n) c.args.n = search rules in
+    let l : None ≡ first_bad (listed_at c.args.words.now c.args.marks.now c.args.setup) c.args.n = search rules in
+    sound_found _ _ _ _ _ _ p.0 p.1 a c.if-not-filled.false l c.if-stored.true
 
 pub returns : goal.returns
-returns c = let p = c.requires in judge_last _ _ _ _ _ _ p.0 p.1 c.lowest-apart.ensures c.if-apart-n.false (c.if-not-filled.false) c.lowest-unlisted.ensures c.if-unlisted-n.false c.if-stored.false c.lowest-last.ensures c.broken-2.ensures
+returns c =
+    let p = c.requires in
+    let a : None ≡ first_bad (merged_at c.args.words.now c.args.n) c.args.n = search rules in
+    let l : None ≡ first_bad (listed_at c.args.words.now c.args.marks.now c.args.setup) c.args.n = search rules in
+    let d : c.lowest-last.result ≡ first_bad (not_last_at c.args.words.now c.args.n) c.args.n = search rules in
+    rw c.unwrap_or-2.ensures (last_found _ _ _ _ _ _ p.0 p.1 a c.if-not-filled.false l c.if-stored.false d)

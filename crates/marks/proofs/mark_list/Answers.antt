@@ -1,20 +1,26 @@
-use Prim.Native.Nat.{◌≤◌, ◌-◌}
-use mathlib.Core.Path.{◌≡◌, refl}
+use mathlib.Core.Path.{refl}
 use native.Mathlib.Omega.{arith}
-use lib.ListN.{length, length-set}
+use lib.ListN.{length-set}
 use Rattle.marks.specs.Marks.{marks_to}
-use Rattle.marks.specs.MarkLaws.{marks_more, marks_all, start_below}
+use Rattle.marks.specs.MarkLaws.{front_entry, marks_more}
 use Rattle.marks.proofs.mark_list.Goals as goal
 
-pub loop-k-init : goal.loop-k-init
+pub loop-x-init : goal.loop-x-init
 unfolding marks_to
-loop-k-init c = (omega arith, refl, refl)
+loop-x-init c = (refl, refl)
 
-pub overflow_add-at : goal.overflow_add-at
-overflow_add-at c = omega (arith, start_below _ _ _ c.marks_start-start.ensures (c.requires.2 c.loop-k.k c.loop-k-test.true))
+pub overflow_add-marks : goal.overflow_add-marks
+overflow_add-marks c =
+    let e = front_entry _ _ _ c.requires.1 c.loop-x-test.true in
+    omega (arith, e.1, c.requires.2 c.loop-x.x-index e.0)
 
-pub bounds-marks-at : goal.bounds-marks-at
-bounds-marks-at c = omega (arith, start_below _ _ _ c.marks_start-start.ensures (c.requires.2 c.loop-k.k c.loop-k-test.true), c.requires.0, c.loop-k.invariant.1)
+pub bounds-marks-start : goal.bounds-marks-start
+bounds-marks-start c =
+    let e = front_entry _ _ _ c.requires.1 c.loop-x-test.true in
+    omega (arith, e.1, c.requires.2 c.loop-x.x-index e.0)
 
-pub loop-k-preserved : goal.loop-k-preserved
-loop-k-preserved c = let l = c.loop-k.invariant in (omega arith, simp length-set l.1, marks_more _ _ _ _ _ l.2)
+pub loop-x-preserved : goal.loop-x-preserved
+loop-x-preserved c =
+    let e = front_entry _ _ _ c.requires.1 c.loop-x-test.true in
+    let l = c.loop-x.invariant in
+    rw e.1 (simp length-set l.0, marks_more _ _ _ _ _ l.1)

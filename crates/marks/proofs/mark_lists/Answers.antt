@@ -1,7 +1,6 @@
 use native.Mathlib.Omega.{arith}
 use Rattle.geometry.specs.declared.Bucket.TheVariants.{Small, Medium, Large}
 use Rattle.marks.specs.Marks.{marks_from}
-use borrow.Author.Rules.{rules}
 use Rattle.marks.proofs.mark_lists.Goals as goal
 
 pub mark_list-requires : goal.mark_list-requires

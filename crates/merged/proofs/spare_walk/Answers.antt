@@ -1,28 +1,22 @@
--- `merged::spare_walk` meets its contract: the loop's invariant is that the walk still to go answers as the whole walk.
--- The measure is the number of slots left to pass.
+-- `merged::spare_walk` meets its contract: each turn answers as the walk with one slot fewer to pass.
 -- Assumes nothing.
-use mathlib.Core.Bool.{not}
-use mathlib.Core.Path.{ap}
-use mathlib.Core.Path.{◌≡◌, refl, ◌∙◌}
+use mathlib.Core.Path.{◌≡◌, ◌∙◌}
+use Prim.Native.Nat.{◌+◌, ◌-◌}
 use native.Mathlib.Omega.{arith}
-use Rattle.links.specs.Links.{spare_walk}
+use borrow.Author.Rules.{rules}
 use Rattle.links.proofs.TurnLaws.{walk_on, walk_past, walk_at_live, walk_done}
-use Rattle.links.specs.TestLaws.{passed, failed}
 use Rattle.merged.proofs.spare_walk.Goals as goal
 
 pub returns-then-at-n : goal.returns-then-at-n
-returns-then-at-n c = walk_past _ _ _ _ c.loop-left-test.true c.if-at-n.true ∙ c.loop-left.invariant
+returns-then-at-n c = walk_past _ _ _ _ (omega arith) c.if-at-n.true ∙ c.loop.invariant
 
-pub returns-then-not-same_kind : goal.returns-then-not-same_kind
-returns-then-not-same_kind c = walk_at_live _ _ _ _ c.loop-left-test.true c.if-at-n.false
-    (rw (← c.node_at-node.ensures) (failed c.same_kind.ensures (ap not c.if-not-same_kind.true)))
-    ∙ c.loop-left.invariant
+pub returns-then-ne : goal.returns-then-ne
+returns-then-ne c = walk_at_live _ _ _ _ (omega arith) c.if-at-n.false (rw (← c.node_at-node.ensures) (search rules)) ∙ c.loop.invariant
 
-pub loop-left-preserved : goal.loop-left-preserved
-loop-left-preserved c = rw c.node_at-node.ensures
-    (walk_on _ _ _ _ c.loop-left-test.true c.if-at-n.false
-    (rw (← c.node_at-node.ensures) (passed c.same_kind.ensures (ap not c.if-not-same_kind.false)))
-    ∙ c.loop-left.invariant)
+pub loop-preserved : goal.loop-preserved
+loop-preserved c =
+    let e : c.args.unused - (c.loop.counter + 1) ≡ c.args.unused - c.loop.counter - 1 = omega arith in
+    rw (c.node_at-node.ensures, e) (walk_on _ _ _ _ (omega arith) c.if-at-n.false (rw (← c.node_at-node.ensures) (search rules)) ∙ c.loop.invariant)
 
 pub returns : goal.returns
-returns c = c.is_none.ensures ∙ walk_done _ _ _ _ c.loop-left-test.false ∙ c.loop-left.invariant
+returns c = c.is_none.ensures ∙ walk_done _ _ _ _ (omega arith) ∙ c.loop.invariant

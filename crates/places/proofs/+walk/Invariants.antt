@@ -13,8 +13,8 @@ decreases-place_of_chain l = 3 * l.left + 1
 abbrev pub decreases-place_of_container : goal.decreases-place_of_container
 decreases-place_of_container l = 3 * l.left + 2
 
-abbrev pub invariant-place_of_chain-loop-at : goal.invariant-place_of_chain-loop-at
-invariant-place_of_chain-loop-at l = Going l.words l.firsts l.initial.at.0 l.parent l.o l.left l.at.0 l.prev l.sum
+abbrev pub invariant-place_of_chain-loop-parent : goal.invariant-place_of_chain-loop-parent
+invariant-place_of_chain-loop-parent l = Going l.words l.firsts l.initial.at.0 l.parent l.o l.left l.at.0 l.prev l.sum
 
-abbrev pub decreases-place_of_chain-loop-at : goal.decreases-place_of_chain-loop-at
-decreases-place_of_chain-loop-at l = l.sum.left
+abbrev pub decreases-place_of_chain-loop-parent : goal.decreases-place_of_chain-loop-parent
+decreases-place_of_chain-loop-parent l = l.sum.left

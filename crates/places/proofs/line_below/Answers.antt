@@ -4,5 +4,5 @@ use mathlib.Core.Path.{refl, sym, ◌∙◌}
 use Rattle.places.proofs.WalkLaws.{lined_on}
 use Rattle.places.proofs.line_below.Goals as goal
 
-pub loop-rest-preserved : goal.loop-rest-preserved
-loop-rest-preserved c = rw c.flipped-along.ensures (lined_on _ _ c.requires.0 _ _ _ _ _ _ _ c.loop-rest.invariant c.loop-rest-test.true refl (sym c.lone_at.ensures ∙ c.if-not-lone_at.false))
+pub loop-line-preserved : goal.loop-line-preserved
+loop-line-preserved c = rw c.flipped.ensures (lined_on _ _ c.requires.0 _ _ _ _ _ _ _ c.loop-line.invariant c.loop-line-test.true refl (sym c.lone_at.ensures ∙ c.if-not-lone_at.false))

@@ -3,8 +3,8 @@
 use Rattle.places.specs.Places.{Lined}
 use Rattle.places.proofs.line_below.Given as goal
 
-abbrev pub invariant-loop-rest : goal.invariant-loop-rest
-invariant-loop-rest l = Lined l.words l.firsts l.initial.above.0 l.initial.along l.initial.rest l.above.0 l.along l.rest
+abbrev pub invariant-loop-line : goal.invariant-loop-line
+invariant-loop-line l = Lined l.words l.firsts l.initial.line.at.0 l.initial.line.along l.initial.line.left l.line.at.0 l.line.along l.line.left
 
-abbrev pub decreases-loop-rest : goal.decreases-loop-rest
-decreases-loop-rest l = l.rest
+abbrev pub decreases-loop-line : goal.decreases-loop-line
+decreases-loop-line l = l.line.left

@@ -1,7 +1,5 @@
-use mathlib.Core.Path.{sym}
 use native.Mathlib.Omega.{arith}
-use Rattle.walked.specs.TreeLaws.{front_length, tree_prepared, tree_judged}
-use borrow.Author.Rules.{rules}
+use Rattle.walked.specs.TreeLaws.{tree_prepared, tree_judged}
 use Rattle.walked.proofs.audit_tree.Goals as goal
 
 pub audit_marked-requires : goal.audit_marked-requires
