@@ -1,15 +1,15 @@
 -- WHEN ALLOCATE ANSWERS WHAT, and what holds after it: of any outcome o that its contract allows.
 -- Assumes nothing.
-use Rattle.std.specs.Prelude.{◌≡◌, refl, ◌↔◌, ◌⊎◌, ℕ, ◌<◌}
+use Rattle.std.specs.Prelude.{◌≡◌, refl, ◌↔◌, ◌⊎◌, Result, Ok, Err, ℕ, ◌<◌}
 use Rattle.std.proofs.Common.{sym, ap, ◌∙◌, inl, inr, arith}
 use Rattle.geometry.specs.Sides.{setup_of}
 use Rattle.geometry.specs.declared.Extent.{Extent}
 use Rattle.geometry.specs.declared.Size.{Size}
 use Rattle.rounding.specs.Rounding.{request_of}
-use Rattle.rounding.specs.RequestLaws.{wide, tall, wide_up, tall_up}
-use Rattle.rounding.proofs.RequestLaws.{request_not_positive, request_too_large, request_sides}
-use Rattle.rounding.specs.declared.Request.{Request}
-use Rattle.rounding.specs.declared.Request.TheVariants.{Of, NotPositive, TooLarge}
+use Rattle.rounding.specs.RequestLaws.{wide, tall, wide_up, tall_up, Outcome, not_positive, too_large, accepted}
+use Rattle.rounding.proofs.RequestLaws.{request_outcome, request_not_positive, request_too_large, request_sides}
+use Rattle.refusals.specs.declared.Refusal.{Refusal}
+use Rattle.refusals.specs.declared.Refusal.TheVariants.{NotPositive, TooLarge}
 use Rattle.slots.specs.declared.AllocIndex.{AllocIndex}
 use Rattle.steps.specs.State.{State}
 use Rattle.sound.specs.Sound.{Sound}
@@ -23,7 +23,7 @@ use Rattle.granted.proofs.Promises.{grant_keeps_sound, grant_gives_6, grant_give
 use Rattle.allocate.specs.Allocate.{Crop, no_crop, allocated_for, allocated, leaves, AllocateCall}
 
 -- The request that allocate takes: a requested size with both sides above 0, rounded up.
-abbrev pub asks : State → Size → Request
+abbrev pub asks : State → Size → Result Extent Refusal
 asks s size = request_of (setup_of s.head.sheet s.head.options) size
 
 -- A requested side is 0 or less; neither is, and a side rounded up exceeds 2,147,483,647.
@@ -44,15 +44,15 @@ pub allocate_once : (size : Size) (s : State) {o p : Given Crop} → AllocateCal
 allocate_once size s = answers_once
 
 -- What holds of the two refusals of a request and of a request that is taken, holds on sound tables.
-on_request : (s : State) (size : Size) (P : Grant → Type 0) → (asks s size ≡ NotPositive → P (refused 4 s)) → (asks s size ≡ TooLarge → P (refused 5 s))
-    → ((e : Extent) → asks s size ≡ Of e → P (granted s e)) → P (allocated s size)
+on_request : (s : State) (size : Size) (P : Grant → Type 0) → (asks s size ≡ Err NotPositive → P (refused 4 s)) → (asks s size ≡ Err TooLarge → P (refused 5 s))
+    → ((e : Extent) → asks s size ≡ Ok e → P (granted s e)) → P (allocated s size)
 unfolding allocated allocated_for
-on_request s size P four five rest = go (asks s size) refl
+on_request s size P four five rest = go (request_outcome (setup_of s.head.sheet s.head.options) size) refl
   where
-    go : (r : Request) → asks s size ≡ r → P (allocated_for s r)
-    go NotPositive q = four q
-    go TooLarge q = five q
-    go (Of e) q = rest e q
+    go : {r : Result Extent Refusal} → Outcome (setup_of s.head.sheet s.head.options) size r → asks s size ≡ r → P (allocated_for s r)
+    go (not_positive h) q = four q
+    go (too_large x y h) q = five q
+    go (accepted x y h k) q = rest _ q
 
 -- A request that is taken gets 0, 6 or 7.
 taken_answers : (s : State) (e : Extent) (k : ℕ) → (k ≡ 0 → ⊥) → (k ≡ 6 → ⊥) → (k ≡ 7 → ⊥) → (granted s e).answer ≡ k → ⊥
@@ -61,15 +61,15 @@ taken_answers s e k zero six seven =
     grant_cases s e (λ g. g.answer ≡ k → ⊥) (λ c q. six (sym q)) (λ i b j c n q. seven (sym q)) (λ i b j c n q. zero (sym q))
 
 -- Two requests that were told apart.
-same_extent : {d e : Extent} → Of d ≡ Of e → d ≡ e
+same_extent : {d e : Extent} → ◌≡◌ {A = Result Extent Refusal} (Ok d) (Ok e) → d ≡ e
 same_extent q = cc
 
 -- A request that is refused is not taken, and is refused in one way.
-not_taken : {r : Request} {e : Extent} → (r ≡ NotPositive) ⊎ (r ≡ TooLarge) → r ≡ Of e → ⊥
+not_taken : {r : Result Extent Refusal} {e : Extent} → (r ≡ Err NotPositive) ⊎ (r ≡ Err TooLarge) → r ≡ Ok e → ⊥
 not_taken (inl p) q = let z : ◌≡◌ {A = ℕ} 0 1 = cc in omega arith
 not_taken (inr p) q = let z : ◌≡◌ {A = ℕ} 0 1 = cc in omega arith
 
-one_refusal : {r : Request} → r ≡ NotPositive → r ≡ TooLarge → ⊥
+one_refusal : {r : Result Extent Refusal} → r ≡ Err NotPositive → r ≡ Err TooLarge → ⊥
 one_refusal p q = let z : ◌≡◌ {A = ℕ} 0 1 = cc in omega arith
 
 -- Neither 6 nor 7, and not 0.
@@ -84,10 +84,10 @@ not_zero (inr e) z = omega arith
 module _ (s : State) (size : Size) where
   -- The request is taken as e, and P holds of e.
   abbrev pub Taken : (Extent → Type 0) → Type 0
-  Taken P = (e : Extent) × (asks s size ≡ Of e) × P e
+  Taken P = (e : Extent) × (asks s size ≡ Ok e) × P e
 
   -- What a taken request gives, where P says when.
-  by_request : (k : ℕ) (P : Extent → Type 0) → (k ≡ 4 → ⊥) → (k ≡ 5 → ⊥) → ((e : Extent) → asks s size ≡ Of e → ((granted s e).answer ≡ k) ↔ P e)
+  by_request : (k : ℕ) (P : Extent → Type 0) → (k ≡ 4 → ⊥) → (k ≡ 5 → ⊥) → ((e : Extent) → asks s size ≡ Ok e → ((granted s e).answer ≡ k) ↔ P e)
       → ((allocated s size).answer ≡ k) ↔ Taken P
   by_request k P four five rest =
       on_request s size (λ g. (g.answer ≡ k) ↔ Taken P) (λ q. (λ z. absurd (four (sym z)), λ t. absurd (not_taken (inl q) t.1)))
@@ -128,7 +128,7 @@ module _ (s : State) (size : Size) where
         (λ e q. (λ z. absurd (taken_answers s e 5 (λ z. omega arith) (λ z. omega arith) (λ z. omega arith) z), λ h. absurd (not_taken (inr (w.1 h)) q))))
 
     -- The sides of a request that is taken are above 0.
-    above : (e : Extent) → asks s size ≡ Of e → (0 < e.width) × (0 < e.height)
+    above : (e : Extent) → asks s size ≡ Ok e → (0 < e.width) × (0 < e.height)
     above e q = let h = request_sides (setup_of s.head.sheet s.head.options) size q in (h.0, h.2)
 
     -- 6: past 4 and 5, no Free rectangle is as wide and as tall as the rounded request.

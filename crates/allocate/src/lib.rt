@@ -2,45 +2,31 @@
 #![tactic(auto)]
 
 ghost use Rattle.steps.specs.State.{state};
+ghost use Rattle.refusals.specs.Refusals.{answer_of};
 ghost use Rattle.outcomes.specs.Given.{given};
-ghost use Rattle.allocate.specs.Allocate.{crop, AllocateCall};
+ghost use Rattle.allocate.specs.Allocate.{crop_of, AllocateCall};
 
 use geometry::Size;
-use rounding::Request;
+use refusals::Refusal;
 use steps::Head;
 use taking::Allocation;
 
-// A rectangle for a requested size, with its ticket. 1: a table length is out of range; 2: the tables are not sound; 4: a side is 0 or less;
-// 5: a side rounded up is too large; 6: no Free rectangle is as wide and as tall; 7: too few spare slots.
+// A rectangle for a requested size, with its ticket. A refusal for space or for slots leaves the lists as the search left them; any other changes nothing.
+#[tactic(auto, using(audit::proofs::AnswerLaws::answers_checked, refusals::proofs::RefusalLaws::refused_not_0, crate::specs::AllocateLaws::leaves_refused, crate::specs::AllocateLaws::leaves_rest))]
 pub fn allocate(
     words: &mut [u32],
     generations: &mut [u8],
     small: &mut [u32],
     medium: &mut [u32],
     large: &mut [u32],
-    head: Head,
+    head: &mut Head,
     size: Size,
-) -> Allocation
-    ensures { AllocateCall size (state head words.old generations.old small.old medium.old large.old)
-        (given result.answer (crop result.id result.rectangle) (state result.head words.new generations.new small.new medium.new large.new)) }
+) -> Result<Allocation, Refusal>
+    ensures { AllocateCall size (state head.old words.old generations.old small.old medium.old large.old)
+        (given (answer_of result) (crop_of result) (state head.new words.new generations.new small.new medium.new large.new)) }
 {
-    let found = audit::check(words, generations, small, medium, large, head);
-    if found != 0 {
-        return taking::refusal(found, head);
-    }
+    audit::check(words, generations, small, medium, large, *head)?;
     let setup = geometry::setup_of(head.sheet, head.options);
-    let asked = rounding::request_of(setup, size);
-    match asked {
-        Request::NotPositive => taking::refusal(4, head),
-        Request::TooLarge => taking::refusal(5, head),
-        Request::Of(request) => granting::grant_request(
-            words,
-            generations,
-            small,
-            medium,
-            large,
-            head,
-            request,
-        ),
-    }
+    let request = rounding::request_of(setup, size)?;
+    granting::grant_request(words, generations, small, medium, large, head, request)
 }

@@ -10,6 +10,7 @@ use geometry::Rectangle;
 use slots::{AllocIndex, Node, NodeKind};
 
 // The chosen slot turns Alloc, with the request's rectangle.
+#[tactic(auto, unfolding(grants::specs::Carves::turned))]
 pub fn turn(words: &mut [u32], i: AllocIndex, rect: Rectangle)
     requires { HasSlot words.old i }
     ensures { words.new ≡ turned words.old i rect }
@@ -19,23 +20,19 @@ pub fn turn(words: &mut [u32], i: AllocIndex, rect: Rectangle)
 }
 
 // Split becomes the chosen slot's next sibling.
+#[tactic(auto, unfolding(grants::specs::Carves::beside), using(pairs::specs::PairLaws::link_stored))]
 pub fn split_beside(words: &mut [u32], i: AllocIndex, s: AllocIndex, rect: Rectangle)
     requires { HasSlot words.old i × HasSlot words.old s × LinkHas words.old (node_at words.old i).next }
     ensures { words.new ≡ beside words.old i s rect }
 {
     let node = table::node_at(words, i);
-    let parent = node.parent;
-    let next = node.next;
-    let o = node.orientation;
     let split = Node {
-        parent: parent,
-        next: next,
         prev: i,
         kind: NodeKind::Free,
-        orientation: o,
-        rect: rect,
+        rect,
+        ..node
     };
     stores::put_node(words, s, split);
     stores::set_next(words, i, s);
-    pairs::answer_link(words, next, s);
+    pairs::answer_link(words, node.next, s);
 }

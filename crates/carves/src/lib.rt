@@ -11,115 +11,71 @@ use cuts::Cut;
 use geometry::{Orientation, Rectangle};
 use grants::{CutSlots, Shape};
 use slots::{AllocIndex, NodeKind};
-use steps::{Head, Taken};
+use steps::Head;
 
-// The slots of a cut, and the head after they were taken.
-#[derive(Clone, Copy)]
-pub struct NewSlots {
-    pub slots: CutSlots,
-    pub head: Head,
-}
+// No slots.
+const NO_SLOTS: CutSlots = CutSlots {
+    split: slots::NONE,
+    inner: slots::NONE,
+    alloc: slots::NONE,
+    left: slots::NONE,
+};
 
 // Takes the new slots of a shape in creation order: split, inner Container, Alloc, leftover.
+#[tactic(auto, unfolding(grants::specs::Carves::news_of, pairs::specs::Pairs::two_nodes), using(pairs::specs::PairLaws::can_two_more, pairs::specs::PairLaws::can_two, pairs::specs::PairLaws::can_more))]
 pub fn take_slots(
     shape: Shape,
     words: &[u32],
     generations: &mut [u8],
-    head: Head,
+    head: &mut Head,
     i: AllocIndex,
-) -> NewSlots
-    requires { CanTake (slots_needed shape) words.now generations.old head }
-    ensures { news result.slots result.head generations.new
-        ≡ news_of shape words.now generations.old head i }
+) -> CutSlots
+    requires { CanTake (slots_needed shape) words.now generations.old head.old }
+    ensures { news result head.new generations.new ≡ news_of shape words.now generations.old head.old i }
 {
-    let none = AllocIndex(slots::NONE);
     match shape {
-        Shape::Exact => {
-            let new = CutSlots {
-                split: none,
-                inner: none,
-                alloc: i,
-                left: none,
-            };
-            NewSlots {
-                slots: new,
-                head: head,
-            }
-        }
-        Shape::Along => {
-            let s = steps::new_node(words, generations, head);
-            let split = s.slot;
-            let after = s.head;
-            let new = CutSlots {
-                split: split,
-                inner: none,
-                alloc: i,
-                left: none,
-            };
-            NewSlots {
-                slots: new,
-                head: after,
-            }
-        }
+        Shape::Exact => CutSlots {
+            alloc: i,
+            ..NO_SLOTS
+        },
+        Shape::Along => CutSlots {
+            split: steps::new_node(words, generations, head),
+            alloc: i,
+            ..NO_SLOTS
+        },
         Shape::AlongLeft => {
-            let s = steps::new_node(words, generations, head);
-            let split = s.slot;
-            let between = s.head;
-            let t = pairs::take_two(words, generations, between);
-            let alloc = t.first;
-            let left = t.second;
-            let after = t.head;
-            let new = CutSlots {
-                split: split,
-                inner: none,
-                alloc: alloc,
-                left: left,
-            };
-            NewSlots {
-                slots: new,
-                head: after,
+            let split = steps::new_node(words, generations, head);
+            let t = pairs::take_two(words, generations, head);
+            CutSlots {
+                split,
+                alloc: t.first,
+                left: t.second,
+                ..NO_SLOTS
             }
         }
         Shape::Across => {
             let t = pairs::take_two(words, generations, head);
-            let split = t.first;
-            let alloc = t.second;
-            let after = t.head;
-            let new = CutSlots {
-                split: split,
-                inner: none,
-                alloc: alloc,
-                left: none,
-            };
-            NewSlots {
-                slots: new,
-                head: after,
+            CutSlots {
+                split: t.first,
+                alloc: t.second,
+                ..NO_SLOTS
             }
         }
         Shape::AcrossLeft => {
             let t = pairs::take_two(words, generations, head);
-            let split = t.first;
-            let inner = t.second;
-            let between = t.head;
-            let u = pairs::take_two(words, generations, between);
-            let alloc = u.first;
-            let left = u.second;
-            let after = u.head;
-            let new = CutSlots {
-                split: split,
-                inner: inner,
-                alloc: alloc,
-                left: left,
-            };
-            NewSlots {
-                slots: new,
-                head: after,
+            let u = pairs::take_two(words, generations, head);
+            CutSlots {
+                split: t.first,
+                inner: t.second,
+                alloc: u.first,
+                left: u.second,
             }
         }
     }
 }
 
 // Writes the slots of a cut: slot i is chosen, and the request lies at rect.
+#[tactic(auto, unfolding(grants::specs::Carves::carved))]
 pub fn carve(
     shape: Shape,
     words: &mut [u32],
@@ -131,25 +87,16 @@ pub fn carve(
     requires { Carvable shape words.old i new }
     ensures { words.new ≡ carved shape words.old i new rect cut }
 {
-    let node = table::node_at(words, i);
-    let o = node.orientation;
+    let o = table::node_at(words, i).orientation;
     let over = geometry::flipped(o);
-    let s = new.split;
-    let c = new.inner;
-    let a = new.alloc;
-    let l = new.left;
-    let split = cut.split;
-    let left = cut.leftover;
     match shape {
-        Shape::Exact => {
-            beside::turn(words, i, rect);
-        }
+        Shape::Exact => beside::turn(words, i, rect),
         Shape::Along => {
-            beside::split_beside(words, i, s, split);
+            beside::split_beside(words, i, new.split, cut.split);
             beside::turn(words, i, rect);
         }
         Shape::AlongLeft => {
-            beside::split_beside(words, i, s, split);
+            beside::split_beside(words, i, new.split, cut.split);
             stores::set_kind(words, i, NodeKind::Container);
             pairs::put_pair(
                 words,
@@ -159,7 +106,7 @@ pub fn carve(
                 NodeKind::Alloc,
                 rect,
                 new.left,
-                left,
+                cut.leftover,
             );
         }
         Shape::Across => {
@@ -172,26 +119,20 @@ pub fn carve(
                 NodeKind::Alloc,
                 rect,
                 new.split,
-                split,
+                cut.split,
             );
         }
         Shape::AcrossLeft => {
             stores::set_kind(words, i, NodeKind::Container);
-            let zero = Rectangle {
-                x0: 0,
-                y0: 0,
-                x1: 0,
-                y1: 0,
-            };
             pairs::put_pair(
                 words,
                 i,
                 over,
                 new.inner,
                 NodeKind::Container,
-                zero,
+                geometry::no_rect(),
                 new.split,
-                split,
+                cut.split,
             );
             pairs::put_pair(
                 words,
@@ -201,7 +142,7 @@ pub fn carve(
                 NodeKind::Alloc,
                 rect,
                 new.left,
-                left,
+                cut.leftover,
             );
         }
     }

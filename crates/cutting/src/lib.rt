@@ -4,69 +4,62 @@
 ghost use Rattle.std.specs.Prelude.{◌≡◌};
 ghost use Rattle.buckets.specs.FreeLists.{lists};
 ghost use Rattle.steps.specs.State.{state};
-ghost use Rattle.grants.specs.Grants.{grant, cut_for};
+ghost use Rattle.grants.specs.Grants.{cut_for};
+ghost use Rattle.taking.specs.Allocations.{grant_by};
 ghost use Rattle.cutting.specs.Ready.{ChosenReady};
 
 use buckets::Lengths;
-use geometry::{Bucket, Extent, Rectangle, Setup};
-use slots::AllocIndex;
+use choices::Chosen;
+use geometry::{Extent, Rectangle, Setup};
+use refusals::Refusal;
 use steps::Head;
 use taking::Allocation;
 
-// Slot i was chosen for a request, and its entry stands at place k of a bucket's list. 7: too few slots are spare for its cut.
+// The chosen slot is cut for a request, where enough slots are spare. The lists have these lengths.
 pub fn cut_for(
     words: &mut [u32],
     generations: &mut [u8],
     small: &mut [u32],
     medium: &mut [u32],
     large: &mut [u32],
-    head: Head,
+    head: &mut Head,
     lengths: Lengths,
     setup: Setup,
     request: Extent,
-    i: AllocIndex,
-    bucket: Bucket,
-    k: usize,
-) -> Allocation
-    requires { ChosenReady words.old generations.old head (lists lengths small.old medium.old large.old) request i bucket k }
-    ensures { grant result.answer result.id result.rectangle
-        (state result.head words.new generations.new small.new medium.new large.new)
-        ≡ cut_for (state head words.old generations.old small.old medium.old large.old)
-        setup (lists lengths small.old medium.old large.old) request i bucket k }
+    chosen: Chosen,
+) -> Result<Allocation, Refusal>
+    requires { ChosenReady words.old generations.old head.old (lists lengths small.old medium.old large.old) request chosen.slot chosen.bucket chosen.place }
+    ensures { grant_by result (state head.new words.new generations.new small.new medium.new large.new)
+        ≡ cut_for (state head.old words.old generations.old small.old medium.old large.old)
+        setup (lists lengths small.old medium.old large.old) request chosen.slot chosen.bucket chosen.place }
 {
-    let node = table::node_at(words, i);
-    let chosen = node.rect;
-    let o = node.orientation;
-    let cut = cuts::guillotine_rect(chosen, request.width, request.height, o);
-    let shape = grants::shape_of(cut, o);
+    let node = table::node_at(words, chosen.slot);
+    let cut = cuts::guillotine_rect(node.rect, request.width, request.height, node.orientation);
+    let shape = grants::shape_of(cut, node.orientation);
     let need = grants::slots_needed(shape);
     let total = generations.len() as u32;
-    let spare = head.spare;
-    if spares::has_spare_slots(words, total, spare, head.count, need) {
-        let rect = Rectangle {
-            x0: chosen.x0,
-            y0: chosen.y0,
-            x1: chosen.x0 + request.width,
-            y1: chosen.y0 + request.height,
-        };
-        return taking::take_chosen(
-            shape,
-            words,
-            generations,
-            small,
-            medium,
-            large,
-            head,
-            lengths,
-            setup,
-            i,
-            bucket,
-            k,
-            rect,
-            cut,
-        );
+    if !spares::has_spare_slots(words, total, head.spare, head.count, need) {
+        head.lengths = lengths;
+        return Err(Refusal::NoSlots);
     }
-    let mut after = head;
-    after.lengths = lengths;
-    taking::refusal(7, after)
+    let rect = Rectangle {
+        x0: node.rect.x0,
+        y0: node.rect.y0,
+        x1: node.rect.x0 + request.width,
+        y1: node.rect.y0 + request.height,
+    };
+    Ok(taking::take_chosen(
+        shape,
+        words,
+        generations,
+        small,
+        medium,
+        large,
+        head,
+        lengths,
+        setup,
+        chosen,
+        rect,
+        cut,
+    ))
 }

@@ -1,8 +1,8 @@
 -- Allocate by its three answers, and what is known of each on sound tables.
 -- Assumes nothing.
-use Rattle.std.specs.Prelude.{ℕ, ◌≤◌, ◌<◌, ◌≡◌, ◌↔◌, [], leb}
+use Rattle.std.specs.Prelude.{ℕ, Option, Some, None, ◌≤◌, ◌<◌, ◌≡◌, ◌↔◌, [], leb}
 use Rattle.std.proofs.Math.Path.{refl}
-use Rattle.std.proofs.Common.{arith, leb-true, leb-false}
+use Rattle.std.proofs.Common.{ap, arith, leb-true, leb-false}
 use Rattle.geometry.specs.Choice.{pick_elim}
 use Rattle.cuts.specs.Cuts.{at_corner}
 use Rattle.geometry.specs.declared.Bucket.{Bucket}
@@ -11,10 +11,9 @@ use Rattle.geometry.specs.declared.Rectangle.{Rectangle}
 use Rattle.table.specs.Table.{node_at}
 use Rattle.slots.specs.declared.AllocIndex.{AllocIndex}
 use Rattle.search.proofs.FindLaws.{search_thins, search_nothing_means_none, search_none_means_nothing}
-use Rattle.choices.specs.Choices.{Searched}
+use Rattle.choices.specs.Choices.{chosen_at, Searched}
 use Rattle.search.specs.Search.{find_suitable}
 use Rattle.choices.specs.declared.Chosen.{Chosen}
-use Rattle.choices.specs.declared.Chosen.TheVariants.{At, Nothing}
 use Rattle.steps.specs.State.{State, lists_of}
 use Rattle.sound.specs.View.{seen}
 use Rattle.sound.specs.Sound.{Sound}
@@ -47,25 +46,28 @@ abbrev pub cut_from : State → Extent → AllocIndex → Bucket → ℕ → Gra
 cut_from s e i b k = taken (shape_at s e i) s (setup_at s) (search_of s e).lists i b k (corner_at s e i) (cut_at s e i)
 
 -- A search that chose one slot chose no other, and did not choose nothing.
-pub one_chosen : {c : Chosen} {i j : AllocIndex} {a b : Bucket} {k m : ℕ} → c ≡ At i a k → c ≡ At j b m → i ≡ j
-one_chosen p q = cc
+pub one_chosen : {c : Option Chosen} {i j : AllocIndex} {a b : Bucket} {k m : ℕ} → c ≡ chosen_at i a k → c ≡ chosen_at j b m → i ≡ j
+one_chosen {i = i} {j = j} {a = a} {b = b} {k = k} {m = m} p q =
+    let e : ◌≡◌ {A = Chosen} (record { slot = i; bucket = a; place = k }) (record { slot = j; bucket = b; place = m }) = cc in
+    ap (λ (x : Chosen). x.slot) e
 
-pub not_nothing : {c : Chosen} {i : AllocIndex} {b : Bucket} {k : ℕ} → c ≡ At i b k → c ≡ Nothing → ⊥
+pub not_nothing : {c : Option Chosen} {i : AllocIndex} {b : Bucket} {k : ℕ} → c ≡ chosen_at i b k → c ≡ None → ⊥
 not_nothing p q = let z : ◌≡◌ {A = ℕ} 0 1 = cc in omega arith
 
 -- 6 where nothing is chosen, 7 where fewer slots are spare than the cut needs, else the cut.
 pub grant_cases : (s : State) (e : Extent) (P : Grant → Type 0)
-    → ((search_of s e).chosen ≡ Nothing → P (refused_with 6 s e))
+    → ((search_of s e).chosen ≡ None → P (refused_with 6 s e))
     → ((i : AllocIndex) (b : Bucket) (k : ℕ) → ChoosesAt s e i b k → spare_at s < needed_at s e i → P (refused_with 7 s e))
     → ((i : AllocIndex) (b : Bucket) (k : ℕ) → ChoosesAt s e i b k → needed_at s e i ≤ spare_at s → P (cut_from s e i b k))
     → P (granted s e)
 unfolding granted grant_of cut_for
 grant_cases s e P none few enough = go (search_of s e).chosen refl
   where
-    go : (c : Chosen) → (search_of s e).chosen ≡ c → P (grant_of s (setup_at s) e (search_of s e).lists c)
-    go Nothing q = none q
-    go (At i b k) q =
-        pick_elim P (leb (needed_at s e i) (spare_at s)) _ _ (λ t. enough i b k q (leb-true _ _ t)) (λ t. few i b k q (leb-false _ _ t))
+    go : (c : Option Chosen) → (search_of s e).chosen ≡ c → P (grant_of s (setup_at s) e (search_of s e).lists c)
+    go None q = none q
+    go (Some c) q =
+        pick_elim P (leb (needed_at s e c.slot) (spare_at s)) _ _
+        (λ t. enough c.slot c.bucket c.place q (leb-true _ _ t)) (λ t. few c.slot c.bucket c.place q (leb-false _ _ t))
 
 module _ (s : State) (e : Extent) (L : LentOf s) (S : Sound s) where
   -- The lists as the search left them still hold an entry of each Free slot.
@@ -76,7 +78,7 @@ module _ (s : State) (e : Extent) (L : LentOf s) (S : Sound s) where
   chosen_picked = search_picks s L S e (search_of s e) refl
 
   -- Nothing is chosen exactly where no Free rectangle is as wide and as tall as the request.
-  pub nothing_when : ((search_of s e).chosen ≡ Nothing) ↔ ((x : ℕ) → Roomy s e x → ⊥)
+  pub nothing_when : ((search_of s e).chosen ≡ None) ↔ ((x : ℕ) → Roomy s e x → ⊥)
   unfolding seen
   nothing_when = (
     λ c x r. search_nothing_means_none s.words (setup_at s) e (lists_of s) (search_of s e) refl (sound_searchable s L S) s.head.count

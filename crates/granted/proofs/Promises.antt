@@ -1,11 +1,10 @@
 -- THE PROMISES of allocate, for a rounded request with sides above 0 on sound tables whose lengths are in range.
 -- Assumes nothing but that.
-use Rattle.std.specs.Prelude.{ℕ, ◌<◌, ◌≡◌, refl, ◌↔◌}
+use Rattle.std.specs.Prelude.{ℕ, Option, Some, None, ◌<◌, ◌≡◌, refl, ◌↔◌}
 use Rattle.std.proofs.Common.{arith}
 use Rattle.geometry.specs.declared.Extent.{Extent}
 use Rattle.slots.specs.declared.AllocIndex.{AllocIndex}
 use Rattle.choices.specs.declared.Chosen.{Chosen}
-use Rattle.choices.specs.declared.Chosen.TheVariants.{At, Nothing}
 use Rattle.steps.specs.State.{State}
 use Rattle.sound.specs.Sound.{Sound}
 use Rattle.lent.specs.Lent.{LentOf}
@@ -32,9 +31,9 @@ module _ (s : State) (e : Extent) (L : LentOf s) (S : Sound s) (w : 0 < e.width)
   pub roomy_is_chosen : (x : ℕ) → Roomy s e x → (i : AllocIndex) × Chooses s e i
   roomy_is_chosen x r = go (search_of s e).chosen refl
     where
-      go : (c : Chosen) → (search_of s e).chosen ≡ c → (i : AllocIndex) × Chooses s e i
-      go Nothing q = absurd ((nothing_when s e L S).0 q x r)
-      go (At i b k) q = (i, (b, k, q))
+      go : (c : Option Chosen) → (search_of s e).chosen ≡ c → (i : AllocIndex) × Chooses s e i
+      go None q = absurd ((nothing_when s e L S).0 q x r)
+      go (Some c) q = (c.slot, (c.bucket, c.place, q))
 
   -- 6: no Free rectangle is as wide and as tall as the request.
   pub grant_gives_6 : ((granted s e).answer ≡ 6) ↔ ((x : ℕ) → Roomy s e x → ⊥)

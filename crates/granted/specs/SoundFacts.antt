@@ -18,9 +18,8 @@ use Rattle.slots.specs.declared.NodeKind.TheVariants.{Free}
 use Rattle.buckets.specs.FreeLists.{Lists, list_of}
 use Rattle.search.proofs.FindLaws.{search_each, search_chosen}
 use Rattle.fits.specs.Scans.{Lookable}
-use Rattle.choices.specs.Choices.{Searched, Searchable}
+use Rattle.choices.specs.Choices.{chosen_at, Searched, Searchable}
 use Rattle.search.specs.Search.{find_suitable}
-use Rattle.choices.specs.declared.Chosen.TheVariants.{At}
 use Rattle.steps.specs.State.{State, lists_of}
 use Rattle.sound.specs.View.{seen, Live}
 use Rattle.sound.specs.Rules.{NotEmpty}
@@ -92,7 +91,7 @@ module _ (s : State) (L : LentOf s) where
 
     -- What the search chooses.
     pub search_picks : (e : Extent) (f : Searched) → f ≡ find_suitable s.words (setup_at s) e (lists_of s)
-        → (i : AllocIndex) (b : Bucket) (k : ℕ) → f.chosen ≡ At i b k → Picked s e f.lists i b k
+        → (i : AllocIndex) (b : Bucket) (k : ℕ) → f.chosen ≡ chosen_at i b k → Picked s e f.lists i b k
     unfolding seen
     search_picks e f q i b k c =
         let z = search_chosen s.words (setup_at s) e (lists_of s) f q sound_searchable i b k c in

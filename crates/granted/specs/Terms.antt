@@ -14,10 +14,10 @@ use Rattle.slots.specs.declared.AllocIndex.{AllocIndex}
 use Rattle.slots.specs.declared.NodeKind.TheVariants.{Alloc}
 use Rattle.buckets.specs.FreeLists.{list_of}
 use Rattle.buckets.specs.declared.Lengths.{Lengths}
+use Rattle.choices.specs.Choices.{chosen_at}
 use Rattle.search.specs.Search.{find_suitable}
 use Rattle.fits.specs.Suits.{Suits}
 use Rattle.fits.specs.Thinned.{Thinned}
-use Rattle.choices.specs.declared.Chosen.TheVariants.{At}
 use Rattle.steps.specs.Spares.{spare_slots}
 use Rattle.steps.specs.State.{State, lists_of}
 use Rattle.steps.specs.declared.Head.{Head}
@@ -35,7 +35,7 @@ Roomy s e x = (x < s.head.count) × Suits s.words e.width e.height x
 
 -- The search chooses slot i, whose entry stands at place k of a bucket's list.
 abbrev pub ChoosesAt : State → Extent → AllocIndex → Bucket → ℕ → Type 0
-ChoosesAt s e i b k = (find_suitable s.words (setup_at s) e (lists_of s)).chosen ≡ At i b k
+ChoosesAt s e i b k = (find_suitable s.words (setup_at s) e (lists_of s)).chosen ≡ chosen_at i b k
 
 abbrev pub Chooses : State → Extent → AllocIndex → Type 0
 Chooses s e i = (b : Bucket) × (k : ℕ) × ChoosesAt s e i b k

@@ -1,6 +1,6 @@
 -- On sound tables the chosen slot is ready for its cut.
 -- Assumes nothing.
-use Rattle.std.specs.Prelude.{◌≡◌, List, ℕ, ◌<◌}
+use Rattle.std.specs.Prelude.{◌≡◌, List, None, ℕ, ◌<◌}
 use Rattle.std.proofs.Common.{arith}
 use Rattle.geometry.specs.declared.Bucket.{Bucket}
 use Rattle.geometry.specs.declared.Extent.{Extent}
@@ -9,9 +9,8 @@ use Rattle.slots.specs.Slots.{slot}
 use Rattle.table.specs.Table.{node_at, HasSlot}
 use Rattle.slots.specs.declared.AllocIndex.{AllocIndex}
 use Rattle.search.proofs.FindLaws.{search_within, search_each}
-use Rattle.choices.specs.Choices.{Searched}
+use Rattle.choices.specs.Choices.{chosen_at, Searched}
 use Rattle.search.specs.Search.{find_suitable}
-use Rattle.choices.specs.declared.Chosen.TheVariants.{At, Nothing}
 use Rattle.steps.specs.State.{State, state, lists_of}
 use Rattle.sound.specs.View.{seen}
 use Rattle.sound.specs.Sound.{Sound}
@@ -44,7 +43,7 @@ module _ (s : State) (L : LentOf s) (S : Sound s) (e : Extent) (setup : Setup) (
         room = omega (arith, z.0, lent_room s L b);
       }
 
-  pub chosen_ready : (i : AllocIndex) (b : Bucket) (k : ℕ) → f.chosen ≡ At i b k → ChosenReady s.words s.generations s.head f.lists e i b k
+  pub chosen_ready : (i : AllocIndex) (b : Bucket) (k : ℕ) → f.chosen ≡ chosen_at i b k → ChosenReady s.words s.generations s.head f.lists e i b k
   unfolding seen
   chosen_ready i b k c =
       let p = search_picks s L S e f found i b k c in
@@ -58,12 +57,12 @@ module _ (s : State) (L : LentOf s) (S : Sound s) (e : Extent) (setup : Setup) (
       }
 
   -- It is cut. (The cut does not look at the lists that it was not given.)
-  pub granted_at : (i : AllocIndex) (b : Bucket) (k : ℕ) → f.chosen ≡ At i b k → (x y z : List ℕ) (t : Grant)
+  pub granted_at : (i : AllocIndex) (b : Bucket) (k : ℕ) → f.chosen ≡ chosen_at i b k → (x y z : List ℕ) (t : Grant)
       → t ≡ cut_for (state s.head s.words s.generations x y z) setup f.lists e i b k → t ≡ granted s e
   unfolding granted grant_of cut_for taken
   granted_at i b k c x y z t q = rw (← told, ← searches, c) q
 
   -- Nothing was chosen: 6.
-  pub granted_none : f.chosen ≡ Nothing → refused 6 (with_lists s.head s.words s.generations f.lists) ≡ granted s e
+  pub granted_none : f.chosen ≡ None → refused 6 (with_lists s.head s.words s.generations f.lists) ≡ granted s e
   unfolding granted grant_of
   granted_none c = rw (← told, ← searches, c)

@@ -5,53 +5,55 @@ ghost use Rattle.std.specs.Prelude.{◌≡◌};
 ghost use Rattle.steps.specs.State.{state};
 ghost use Rattle.sound.specs.Sound.{Sound};
 ghost use Rattle.lent.specs.Lent.{LentOf};
-ghost use Rattle.grants.specs.Grants.{grant, granted};
+ghost use Rattle.grants.specs.Grants.{granted};
+ghost use Rattle.taking.specs.Allocations.{grant_by};
 
-use choices::Chosen;
 use geometry::Extent;
+use refusals::Refusal;
 use steps::Head;
 use taking::Allocation;
 
-// Allocates a rounded request on sound tables. 6: no Free rectangle is as wide and as tall; 7: too few spare slots.
+// Allocates a rounded request on sound tables: in a Free rectangle as wide and as tall, where enough slots are spare for its cut.
 pub fn grant_request(
     words: &mut [u32],
     generations: &mut [u8],
     small: &mut [u32],
     medium: &mut [u32],
     large: &mut [u32],
-    head: Head,
+    head: &mut Head,
     request: Extent,
-) -> Allocation
-    requires { LentOf (state head words.old generations.old small.old medium.old large.old)
-        × Sound (state head words.old generations.old small.old medium.old large.old) }
-    ensures { grant result.answer result.id result.rectangle
-        (state result.head words.new generations.new small.new medium.new large.new)
-        ≡ granted (state head words.old generations.old small.old medium.old large.old) request }
+) -> Result<Allocation, Refusal>
+    requires { LentOf (state head.old words.old generations.old small.old medium.old large.old)
+        × Sound (state head.old words.old generations.old small.old medium.old large.old) }
+    ensures { grant_by result (state head.new words.new generations.new small.new medium.new large.new)
+        ≡ granted (state head.old words.old generations.old small.old medium.old large.old) request }
 {
     let setup = geometry::setup_of(head.sheet, head.options);
-    let lengths = head.lengths;
-    let found = search::find_suitable_rect(words, small, medium, large, lengths, setup, request);
-    let left = found.lengths;
-    let chosen = found.chosen;
-    match chosen {
-        Chosen::At(i, bucket, k) => cutting::cut_for(
+    let found = search::find_suitable_rect(
+        words,
+        small,
+        medium,
+        large,
+        head.lengths,
+        setup,
+        request,
+    );
+    match found.chosen {
+        Some(chosen) => cutting::cut_for(
             words,
             generations,
             small,
             medium,
             large,
             head,
-            left,
+            found.lengths,
             setup,
             request,
-            i,
-            bucket,
-            k,
+            chosen,
         ),
-        Chosen::Nothing => {
-            let mut after = head;
-            after.lengths = left;
-            taking::refusal(6, after)
+        None => {
+            head.lengths = found.lengths;
+            Err(Refusal::NoSpace)
         }
     }
 }

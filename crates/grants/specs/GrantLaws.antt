@@ -10,7 +10,7 @@ use Rattle.table.specs.Table.{node_at}
 use Rattle.buckets.specs.FreeLists.{Lists}
 use Rattle.steps.specs.Spares.{spare_slots}
 use Rattle.steps.specs.State.{State, lists_of}
-use Rattle.grants.specs.Grants.{refused, with_lists, cut_for}
+use Rattle.grants.specs.Grants.{cut_for}
 use Rattle.grants.specs.Shapes.{shape_of, slots_needed}
 
 -- Slot i, chosen for a request, needs more slots than are spare: 7, with the lists as they are given.

@@ -1,6 +1,6 @@
 -- ALLOCATE on sound tables: search, spare-slot count, cut, slots in creation order, pushes.
 -- Assumes nothing.
-use Rattle.std.specs.Prelude.{List, ℕ, length, get_or, leb}
+use Rattle.std.specs.Prelude.{List, Option, Some, None, ℕ, length, get_or, leb}
 use Rattle.geometry.specs.Choice.{pick}
 use Rattle.geometry.specs.Rectangles.{no_rect}
 use Rattle.cuts.specs.Cuts.{at_corner, cut_of}
@@ -16,10 +16,8 @@ use Rattle.tickets.specs.declared.AllocId.{AllocId}
 use Rattle.slots.specs.declared.AllocIndex.{AllocIndex}
 use Rattle.buckets.specs.FreeLists.{Lists, removed_from}
 use Rattle.entries.specs.Entries.{entered}
-use Rattle.choices.specs.Choices.{Searched}
 use Rattle.search.specs.Search.{find_suitable}
 use Rattle.choices.specs.declared.Chosen.{Chosen}
-use Rattle.choices.specs.declared.Chosen.TheVariants.{At, Nothing}
 use Rattle.steps.specs.Spares.{spare_slots}
 use Rattle.steps.specs.State.{State, state, lists_of}
 use Rattle.steps.specs.declared.Head.{Head}
@@ -87,9 +85,9 @@ cut_for s setup l e i b k =
     (refused 7 (with_lists s.head s.words s.generations l))
 
 -- 6: no Free rectangle suits. The lists stay as the search left them.
-unfoldable pub grant_of : State → Setup → Extent → Lists → Chosen → Grant
-grant_of s setup e l Nothing = refused 6 (with_lists s.head s.words s.generations l)
-grant_of s setup e l (At i b k) = cut_for s setup l e i b k
+unfoldable pub grant_of : State → Setup → Extent → Lists → Option Chosen → Grant
+grant_of s setup e l None = refused 6 (with_lists s.head s.words s.generations l)
+grant_of s setup e l (Some c) = cut_for s setup l e c.slot c.bucket c.place
 
 -- Allocate a rounded request.
 unfoldable pub granted : State → Extent → Grant

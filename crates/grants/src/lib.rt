@@ -9,7 +9,7 @@ use geometry::Orientation;
 use slots::AllocIndex;
 
 // How a chosen slot is cut: not at all, along its orientation or across it, with a leftover or without.
-#[derive(Clone, Copy)]
+#[derive(Clone, Copy, PartialEq, Eq)]
 pub enum Shape {
     Exact,
     Along,
@@ -28,28 +28,19 @@ pub struct CutSlots {
 }
 
 // The shape of a cut of a slot with this orientation.
+#[tactic(auto, unfolding(crate::specs::Shapes::shape_of))]
 pub fn shape_of(cut: Cut, o: Orientation) -> Shape
     ensures { result ≡ shape_of cut o }
 {
-    let split = cut.split;
-    let left = cut.leftover;
-    let way = cut.orientation;
-    let exact = geometry::is_empty(split);
-    let along = slots::same_orientation(way, o);
-    let bare = geometry::is_empty(left);
-    if exact {
+    if geometry::is_empty(cut.split) {
         return Shape::Exact;
     }
-    if along {
-        if bare {
-            return Shape::Along;
-        }
-        return Shape::AlongLeft;
+    match (cut.orientation == o, geometry::is_empty(cut.leftover)) {
+        (true, true) => Shape::Along,
+        (true, false) => Shape::AlongLeft,
+        (false, true) => Shape::Across,
+        (false, false) => Shape::AcrossLeft,
     }
-    if bare {
-        return Shape::Across;
-    }
-    Shape::AcrossLeft
 }
 
 // How many new slots a shape needs.

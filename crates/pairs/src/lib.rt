@@ -10,33 +10,26 @@ use geometry::{Orientation, Rectangle};
 use slots::{AllocIndex, Node, NodeKind};
 use steps::Head;
 
-// Two slots taken, and the head after it.
+// Two slots taken.
 #[derive(Clone, Copy)]
 pub struct Two {
     pub first: AllocIndex,
     pub second: AllocIndex,
-    pub head: Head,
 }
 
 // Takes two new slots, one after the other.
-pub fn take_two(words: &[u32], generations: &mut [u8], head: Head) -> Two
-    requires { CanTake 2 words.now generations.old head }
-    ensures { two result.first result.second result.head generations.new ≡ two_nodes words.now generations.old head }
+#[tactic(auto, unfolding(crate::specs::Pairs::two_nodes))]
+pub fn take_two(words: &[u32], generations: &mut [u8], head: &mut Head) -> Two
+    requires { CanTake 2 words.now generations.old head.old }
+    ensures { two result.first result.second head.new generations.new ≡ two_nodes words.now generations.old head.old }
 {
-    let a = steps::new_node(words, generations, head);
-    let first = a.slot;
-    let between = a.head;
-    let b = steps::new_node(words, generations, between);
-    let second = b.slot;
-    let after = b.head;
-    Two {
-        first: first,
-        second: second,
-        head: after,
-    }
+    let first = steps::new_node(words, generations, head);
+    let second = steps::new_node(words, generations, head);
+    Two { first, second }
 }
 
 // Two new slots under p: a, and then b, which is Free.
+#[tactic(auto, unfolding(grants::specs::Carves::pair_under))]
 pub fn put_pair(
     words: &mut [u32],
     p: AllocIndex,
@@ -50,18 +43,17 @@ pub fn put_pair(
     requires { HasSlot words.old a × HasSlot words.old b }
     ensures { words.new ≡ pair_under words.old p o a kind rect b other }
 {
-    let none = AllocIndex(slots::NONE);
     let first = Node {
         parent: p,
         next: b,
-        prev: none,
-        kind: kind,
+        prev: slots::NONE,
+        kind,
         orientation: o,
-        rect: rect,
+        rect,
     };
     let last = Node {
         parent: p,
-        next: none,
+        next: slots::NONE,
         prev: a,
         kind: NodeKind::Free,
         orientation: o,
@@ -72,12 +64,12 @@ pub fn put_pair(
 }
 
 // A link to j, unless it is none, is answered by j's prev.
+#[tactic(auto, unfolding(grants::specs::Carves::answered_by))]
 pub fn answer_link(words: &mut [u32], j: AllocIndex, s: AllocIndex)
     requires { LinkHas words.old j }
     ensures { words.new ≡ answered_by words.old j s }
 {
-    if slots::is_none(j) {
-        return;
+    if !slots::is_none(j) {
+        stores::set_prev(words, j, s);
     }
-    stores::set_prev(words, j, s);
 }

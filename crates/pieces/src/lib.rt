@@ -15,28 +15,17 @@ use slots::AllocIndex;
 fn has_split(shape: Shape) -> bool
     ensures { result ≡ has_split shape }
 {
-    match shape {
-        Shape::Exact => false,
-        Shape::Along => true,
-        Shape::AlongLeft => true,
-        Shape::Across => true,
-        Shape::AcrossLeft => true,
-    }
+    shape != Shape::Exact
 }
 
 fn has_left(shape: Shape) -> bool
     ensures { result ≡ has_left shape }
 {
-    match shape {
-        Shape::Exact => false,
-        Shape::Along => false,
-        Shape::AlongLeft => true,
-        Shape::Across => false,
-        Shape::AcrossLeft => true,
-    }
+    matches!(shape, Shape::AlongLeft | Shape::AcrossLeft)
 }
 
 // Pushes split, then leftover: the pieces that the shape has.
+#[tactic(auto, unfolding(crate::specs::Pieces::pieces_of))]
 pub fn enter_pieces(
     shape: Shape,
     words: &[u32],
@@ -53,20 +42,23 @@ pub fn enter_pieces(
     ensures { lists result small.new medium.new large.new
         ≡ pieces_of shape words.now setup split left cut (lists lengths small.old medium.old large.old) }
 {
-    let first = cut.split;
-    let second = cut.leftover;
-    let splits = has_split(shape);
-    let leaves = has_left(shape);
-    if splits {
-        let between = entries::add_free_rect(
-            words, small, medium, large, lengths, setup, split, first,
-        );
-        if leaves {
-            return entries::add_free_rect(
-                words, small, medium, large, between, setup, left, second,
-            );
-        }
+    if !has_split(shape) {
+        return lengths;
+    }
+    let between = entries::add_free_rect(
+        words, small, medium, large, lengths, setup, split, cut.split,
+    );
+    if !has_left(shape) {
         return between;
     }
-    lengths
+    entries::add_free_rect(
+        words,
+        small,
+        medium,
+        large,
+        between,
+        setup,
+        left,
+        cut.leftover,
+    )
 }

@@ -16,17 +16,12 @@ fn whole_sheet(setup: Setup) -> Node
     ensures { result ≡ whole_sheet setup }
 {
     Node {
-        parent: AllocIndex(slots::NONE),
-        next: AllocIndex(slots::NONE),
-        prev: AllocIndex(slots::NONE),
+        parent: slots::NONE,
+        next: slots::NONE,
+        prev: slots::NONE,
         kind: NodeKind::Free,
         orientation: Orientation::Vertical,
-        rect: Rectangle {
-            x0: 0,
-            y0: 0,
-            x1: setup.sheet.width,
-            y1: setup.sheet.height,
-        },
+        rect: Rectangle::from(setup.sheet),
     }
 }
 
@@ -60,11 +55,11 @@ pub fn begin(
     };
     let lengths = buckets::push_to(words, small, medium, large, none, bucket, 0);
     Head {
-        sheet: sheet,
-        options: options,
+        sheet,
+        options,
         root: AllocIndex(0),
-        spare: AllocIndex(slots::NONE),
+        spare: slots::NONE,
         count: 1,
-        lengths: lengths,
+        lengths,
     }
 }

@@ -1,6 +1,6 @@
 -- When start, reset and clear give each of their answers, in the paper's words, and that a refusal changes nothing.
 -- Assumes nothing.
-use Rattle.std.specs.Prelude.{◌≡◌, Bool, ◌↔◌, ℕ}
+use Rattle.std.specs.Prelude.{◌≡◌, Bool, ◌↔◌}
 use Rattle.std.proofs.Math.Path.{refl}
 use Rattle.std.proofs.Common.{sym, ◌∙◌, true≢false, arith}
 use Rattle.std.proofs.Math.Bool.{true, false}

@@ -4,10 +4,11 @@
 ghost use Rattle.std.specs.Prelude.{◌≡◌};
 ghost use Rattle.steps.specs.State.{state};
 ghost use Rattle.outcomes.specs.Given.{nothing, given};
+ghost use Rattle.refusals.specs.Refusals.{answer_of};
 ghost use Rattle.starts.specs.Starts.{start_call, clear_call};
 
 use geometry::{AllocatorOptions, Size};
-use outcomes::Outcome;
+use refusals::Refusal;
 use steps::Head;
 
 // A new sheet, whatever the tables held. 1: a table length is out of range; 3: the setup is invalid; both change nothing.
@@ -17,12 +18,12 @@ pub fn start(
     small: &mut [u32],
     medium: &mut [u32],
     large: &mut [u32],
-    head: Head,
+    head: &mut Head,
     sheet: Size,
     options: AllocatorOptions,
-) -> Outcome
-    ensures { given result.answer nothing (state result.head words.new generations.new small.new medium.new large.new)
-        ≡ start_call sheet options (state head words.old generations.old small.old medium.old large.old) }
+) -> Result<(), Refusal>
+    ensures { given (answer_of result) nothing (state head.new words.new generations.new small.new medium.new large.new)
+        ≡ start_call sheet options (state head.old words.old generations.old small.old medium.old large.old) }
 {
     if !lent::is_lent(
         words.len(),
@@ -31,22 +32,13 @@ pub fn start(
         medium.len(),
         large.len(),
     ) {
-        return Outcome {
-            answer: 1,
-            head: head,
-        };
+        return Err(Refusal::TableLength);
     }
     if !geometry::is_valid(sheet, options) {
-        return Outcome {
-            answer: 3,
-            head: head,
-        };
+        return Err(Refusal::Setup);
     }
-    let after = sheets::begin(words, generations, small, medium, large, sheet, options);
-    Outcome {
-        answer: 0,
-        head: after,
-    }
+    *head = sheets::begin(words, generations, small, medium, large, sheet, options);
+    Ok(())
 }
 
 // The same sheet again, with the size and the options given.
@@ -56,12 +48,12 @@ pub fn reset(
     small: &mut [u32],
     medium: &mut [u32],
     large: &mut [u32],
-    head: Head,
+    head: &mut Head,
     sheet: Size,
     options: AllocatorOptions,
-) -> Outcome
-    ensures { given result.answer nothing (state result.head words.new generations.new small.new medium.new large.new)
-        ≡ start_call sheet options (state head words.old generations.old small.old medium.old large.old) }
+) -> Result<(), Refusal>
+    ensures { given (answer_of result) nothing (state head.new words.new generations.new small.new medium.new large.new)
+        ≡ start_call sheet options (state head.old words.old generations.old small.old medium.old large.old) }
 {
     start(
         words,
@@ -82,13 +74,12 @@ pub fn clear(
     small: &mut [u32],
     medium: &mut [u32],
     large: &mut [u32],
-    head: Head,
-) -> Outcome
-    ensures { given result.answer nothing (state result.head words.new generations.new small.new medium.new large.new)
-        ≡ clear_call (state head words.old generations.old small.old medium.old large.old) }
+    head: &mut Head,
+) -> Result<(), Refusal>
+    ensures { given (answer_of result) nothing (state head.new words.new generations.new small.new medium.new large.new)
+        ≡ clear_call (state head.old words.old generations.old small.old medium.old large.old) }
 {
-    let sheet = head.sheet;
-    let options = head.options;
+    let Head { sheet, options, .. } = *head;
     start(
         words,
         generations,

@@ -1,2 +1,3 @@
+pub mod Allocations
 pub mod Ready
 pub mod ReadyLaws

@@ -1,5 +1,4 @@
 use Rattle.starts.specs.Starts.{clear_call}
-use borrow.Author.Rules.{rules}
 use Rattle.starts.proofs.clear.Goals as goal
 
 pub returns : goal.returns

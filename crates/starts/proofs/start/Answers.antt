@@ -1,8 +1,6 @@
 use mathlib.Core.Path.{sym, ◌∙◌}
-use borrow.Author.Tests.{not-true, not-false}
 use Rattle.lent.specs.LentLaws.{lent_yes}
 use Rattle.starts.specs.StartLaws.{start_lengths, start_invalid, start_done}
-use borrow.Author.Rules.{rules}
 use Rattle.starts.proofs.start.Goals as goal
 
 pub returns-then-not-is_lent : goal.returns-then-not-is_lent
@@ -11,8 +9,8 @@ returns-then-not-is_lent c = start_lengths _ _ _ (sym c.is_lent.ensures ∙ c.if
 pub returns-then-not-is_valid : goal.returns-then-not-is_valid
 returns-then-not-is_valid c = start_invalid _ _ _ (sym c.is_lent.ensures ∙ c.if-not-is_lent.false) (sym c.is_valid.ensures ∙ c.if-not-is_valid.true)
 
-pub begin-after-requires : goal.begin-after-requires
-begin-after-requires c = lent_yes _ _ _ _ _ (sym c.is_lent.ensures ∙ c.if-not-is_lent.false)
+pub begin-requires : goal.begin-requires
+begin-requires c = lent_yes _ _ _ _ _ (sym c.is_lent.ensures ∙ c.if-not-is_lent.false)
 
 pub returns : goal.returns
-returns c = start_done _ _ _ _ (sym c.is_lent.ensures ∙ c.if-not-is_lent.false) (sym c.is_valid.ensures ∙ c.if-not-is_valid.false) c.begin-after.ensures
+returns c = start_done _ _ _ _ (sym c.is_lent.ensures ∙ c.if-not-is_lent.false) (sym c.is_valid.ensures ∙ c.if-not-is_valid.false) c.begin.ensures
