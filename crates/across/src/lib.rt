@@ -13,31 +13,27 @@ use slots::{AllocIndex, NodeKind};
 use steps::Head;
 
 // Takes a Free slot with a rectangle, then a new root before it, over the old top chain.
-fn new_root(words: &mut [u32], generations: &mut [u8], head: Head, rect: Rectangle) -> Two
-    requires { RootReady words.old generations.old head }
-    ensures { (two result.first result.second result.head generations.new ≡ two_nodes words.old generations.old head)
-        × (words.new ≡ crossed words.old head result.second result.first rect) }
+fn new_root(words: &mut [u32], generations: &mut [u8], head: &mut Head, rect: Rectangle) -> Two
+    requires { RootReady words.old generations.old head.old }
+    ensures { (two result.first result.second head.new generations.new ≡ two_nodes words.old generations.old head.old)
+        × (words.new ≡ crossed words.old head.old result.second result.first rect) }
 {
-    let root = head.root;
-    let node = table::node_at(words, root);
-    let o = node.orientation;
+    let before = *head;
+    let o = table::node_at(words, before.root).orientation;
     let over = geometry::flipped(o);
     let new = pairs::take_two(words, generations, head);
-    let free = new.first;
-    let top = new.second;
-    let none = AllocIndex(slots::NONE);
     let zero = geometry::no_rect();
     pairs::put_pair(
         words,
-        none,
+        slots::NONE,
         over,
-        top,
+        new.second,
         NodeKind::Container,
         zero,
-        free,
+        new.first,
         rect,
     );
-    stretches::reparent(words, head.count, top, root);
+    stretches::reparent(words, before.count, new.second, before.root);
     new
 }
 
@@ -56,13 +52,21 @@ pub fn grow_across(
         ≡ grown_across (state head words.old generations.old small.old medium.old large.old) rect }
 {
     let setup = geometry::setup_of(head.sheet, head.options);
-    let lengths = head.lengths;
-    let new = new_root(words, generations, head, rect);
-    let first = new.first;
-    let root = new.second;
-    let mut after = new.head;
-    let more = entries::add_free_rect(words, small, medium, large, lengths, setup, first, rect);
-    after.root = root;
-    after.lengths = more;
-    after
+    let mut after = head;
+    let taken = new_root(words, generations, &mut after, rect);
+    let lengths = entries::add_free_rect(
+        words,
+        small,
+        medium,
+        large,
+        head.lengths,
+        setup,
+        taken.first,
+        rect,
+    );
+    Head {
+        root: taken.second,
+        lengths,
+        ..after
+    }
 }

@@ -1,7 +1,7 @@
 -- The laws by which growing along is proved, from what each call ensures.
 -- Assumes nothing.
 use Rattle.std.specs.Prelude.{◌≡◌, refl, true, false, not, ℕ, ◌+◌, ◌^◌, ◌≤◌, ◌<◌}
-use Rattle.std.proofs.Common.{sym, ◌∙◌, arith}
+use Rattle.std.proofs.Common.{sym, arith}
 use Rattle.geometry.specs.Choice.{pick}
 use Rattle.geometry.specs.declared.Orientation.{Orientation}
 use Rattle.geometry.specs.declared.Orientation.TheVariants.{Vertical, Horizontal}

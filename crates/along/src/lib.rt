@@ -23,17 +23,13 @@ pub fn grow_along(
     ensures { state result words.new generations.new small.new medium.new large.new
         ≡ grown_along (state head words.old generations.old small.old medium.old large.old) by }
 {
-    let root = head.root;
-    let top = table::node_at(words, root);
-    let o = top.orientation;
-    let i = stretches::last_of(words, head.count, root);
+    let o = table::node_at(words, head.root).orientation;
+    let i = stretches::last_of(words, head.count, head.root);
     let last = table::node_at(words, i);
-    let rect = last.rect;
-    let kind = last.kind;
-    if slots::same_kind(kind, NodeKind::Free) {
-        let longer = strips::stretched_rect(o, rect, by);
+    if last.kind == NodeKind::Free {
+        let longer = strips::stretched_rect(o, last.rect, by);
         return growing::stretch(words, small, medium, large, head, i, longer);
     }
-    let new = strips::appended_rect(o, rect, by);
+    let new = strips::appended_rect(o, last.rect, by);
     growing::append_to(words, generations, small, medium, large, head, i, o, new)
 }

@@ -10,30 +10,22 @@ use absorbing::Rung;
 use slots::{AllocIndex, NodeKind};
 
 // Whether slot i has neither prev nor next, and a parent.
+#[tactic(auto, unfolding(frees::specs::Climbs::is_only_child))]
 fn is_only_child(words: &[u32], i: AllocIndex) -> bool
     requires { HasSlot words.now i }
     ensures { result ≡ is_only_child words.now i }
 {
     let node = table::node_at(words, i);
-    let prev = node.prev;
-    let next = node.next;
-    let parent = node.parent;
-    if !slots::is_none(prev) {
-        return false;
-    }
-    if !slots::is_none(next) {
-        return false;
-    }
-    !slots::is_none(parent)
+    slots::is_none(node.prev) && slots::is_none(node.next) && !slots::is_none(node.parent)
 }
 
 // A child gives its rectangle to its parent, which turns Free, and becomes spare.
+#[tactic(auto, unfolding(frees::specs::Climbs::given_up))]
 fn give_up(words: &mut [u32], spare: AllocIndex, child: AllocIndex) -> Rung
     requires { HasSlot words.old child × HasSlot words.old (node_at words.old child).parent }
     ensures { level words.new result.spare result.at ≡ given_up (level words.old spare child) }
 {
-    let node = table::node_at(words, child);
-    let parent = node.parent;
+    let parent = table::node_at(words, child).parent;
     stores::copy_rect(words, child, parent);
     stores::set_kind(words, parent, NodeKind::Free);
     steps::mark_node_unused(words, spare, child);
@@ -50,31 +42,21 @@ pub fn climb(words: &mut [u32], spare: AllocIndex, i: AllocIndex, left: u32) -> 
     ensures { level words.new result.spare result.at ≡ climbed left (level words.old spare i) }
 {
     if left == 0 {
-        return Rung {
-            spare: spare,
-            at: i,
-        };
+        return Rung { spare, at: i };
     }
     let wider = absorbing::absorb_next(words, spare, i);
-    let first = wider.spare;
-    let here = wider.at;
-    let widest = absorbing::absorb_into_prev(words, first, here);
-    let chain = widest.spare;
-    let at = widest.at;
-    if is_only_child(words, at) {
-        let above = give_up(words, chain, at);
-        let rest = above.spare;
-        let parent = above.at;
-        let end = climb(words, rest, parent, left - 1);
-        let last = end.spare;
-        let top = end.at;
+    let widest = absorbing::absorb_into_prev(words, wider.spare, wider.at);
+    if is_only_child(words, widest.at) {
+        let above = give_up(words, widest.spare, widest.at);
+        let end = climb(words, above.spare, above.at, left - 1);
+        // Field by field, for the machine: handed over whole it is stored as two words and read as one double word.
         return Rung {
-            spare: last,
-            at: top,
+            spare: end.spare,
+            at: end.at,
         };
     }
     Rung {
-        spare: chain,
-        at: at,
+        spare: widest.spare,
+        at: widest.at,
     }
 }

@@ -14,7 +14,6 @@ use Rattle.geometry.specs.TestLaws.{and_true_each}
 use Rattle.geometry.specs.declared.AllocatorOptions.{AllocatorOptions}
 use Rattle.geometry.specs.declared.Orientation.{Orientation}
 use Rattle.geometry.specs.declared.Orientation.TheVariants.{Vertical, Horizontal}
-use Rattle.geometry.specs.declared.Rectangle.{Rectangle}
 use Rattle.geometry.specs.declared.Setup.{Setup}
 use Rattle.geometry.specs.declared.Size.{Size}
 use Rattle.slots.specs.declared.Node.{Node}
@@ -33,7 +32,6 @@ use Rattle.strips.specs.Strips.{along, stretched_rect, strip_rect}
 use Rattle.grows.specs.Grows.{with_sheet, growth, stretched, grown_along, grown_both, grown, grow_slots}
 use Rattle.grown.specs.Both.{runs_at, last_at, needs_along, needs_across, Reaches}
 use Rattle.grown.proofs.Both.{between}
-use Rattle.grown.specs.Fills.{Fills}
 use Rattle.grown.specs.Terms.{GrowDue}
 use Rattle.grown.proofs.Whole.{begins}
 use Rattle.growing.specs.Ready.{StepReady}

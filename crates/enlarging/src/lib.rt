@@ -69,11 +69,8 @@ fn grow_both(
     ensures { state result words.new generations.new small.new medium.new large.new
         ≡ grown_both (state head words.old generations.old small.old medium.old large.old) old head.sheet }
 {
-    let root = head.root;
-    let node = table::node_at(words, root);
-    let o = node.orientation;
+    let o = table::node_at(words, head.root).orientation;
     let far = ways::ways_of(o, old, head.sheet, head.options);
-    let strip = far.strip;
     let between = lengthen(words, generations, small, medium, large, head, far.along);
     widen(
         words,
@@ -83,7 +80,7 @@ fn grow_both(
         large,
         between,
         far.across,
-        strip,
+        far.strip,
     )
 }
 
@@ -103,20 +100,11 @@ pub fn grow_sheet(
     ensures { state result words.new generations.new small.new medium.new large.new
         ≡ grown (state head words.old generations.old small.old medium.old large.old) new }
 {
-    let old = head.sheet;
-    let root = head.root;
-    let setup = geometry::setup_of(new, head.options);
-    let sheet = setup.sheet;
-    let mut after = head;
-    after.sheet = new;
-    if lone::is_lone(words, root) {
-        let whole = Rectangle {
-            x0: 0,
-            y0: 0,
-            x1: sheet.width,
-            y1: sheet.height,
-        };
-        return growing::stretch(words, small, medium, large, after, root, whole);
+    let sheet = geometry::setup_of(new, head.options).sheet;
+    let after = Head { sheet: new, ..head };
+    if lone::is_lone(words, head.root) {
+        let whole = Rectangle::from(sheet);
+        return growing::stretch(words, small, medium, large, after, head.root, whole);
     }
-    grow_both(words, generations, small, medium, large, after, old)
+    grow_both(words, generations, small, medium, large, after, head.sheet)
 }

@@ -12,7 +12,7 @@ use Rattle.stores.proofs.StoreLaws.{length_stored, has_stored}
 use Rattle.slots.specs.declared.AllocIndex.{AllocIndex}
 use Rattle.buckets.specs.FreeLists.{Lists, lists}
 use Rattle.steps.specs.Spares.{Fresh, new_node, HasSpare}
-use Rattle.steps.specs.State.{State, state}
+use Rattle.steps.specs.State.{state}
 use Rattle.steps.specs.declared.Head.{Head}
 use Rattle.entries.specs.Entries.{entered, ListsReady, Enterable}
 use Rattle.entries.specs.EntryLaws.{ready_enterable, ready_words}

@@ -29,12 +29,9 @@ pub fn stretch(
         ≡ stretched (state head words.old g small.old medium.old large.old) i rect }
 {
     let setup = geometry::setup_of(head.sheet, head.options);
-    let lengths = head.lengths;
     stores::set_rect(words, i, rect);
-    let more = moves::move_entry(words, small, medium, large, lengths, setup, i, rect);
-    let mut after = head;
-    after.lengths = more;
-    after
+    let lengths = moves::move_entry(words, small, medium, large, head.lengths, setup, i, rect);
+    Head { lengths, ..head }
 }
 
 // Links the new Free slot f after slot i, the last of the top chain.
@@ -42,14 +39,13 @@ fn link_after(words: &mut [u32], i: AllocIndex, f: AllocIndex, o: Orientation, r
     requires { HasSlot words.old i × HasSlot words.old f }
     ensures { words.new ≡ linked_after words.old i f o rect }
 {
-    let none = AllocIndex(slots::NONE);
     let tail = Node {
-        parent: none,
-        next: none,
+        parent: slots::NONE,
+        next: slots::NONE,
         prev: i,
         kind: NodeKind::Free,
         orientation: o,
-        rect: rect,
+        rect,
     };
     stores::set_next(words, i, f);
     stores::put_node(words, f, tail);
@@ -72,12 +68,18 @@ pub fn append_to(
         ≡ appended_to (state head words.old generations.old small.old medium.old large.old) i o rect }
 {
     let setup = geometry::setup_of(head.sheet, head.options);
-    let lengths = head.lengths;
-    let new = steps::new_node(words, generations, head);
-    let f = new.slot;
-    let mut after = new.head;
-    link_after(words, i, f, o, rect);
-    let more = entries::add_free_rect(words, small, medium, large, lengths, setup, f, rect);
-    after.lengths = more;
-    after
+    let mut after = head;
+    let new = steps::new_node(words, generations, &mut after);
+    link_after(words, i, new, o, rect);
+    let lengths = entries::add_free_rect(
+        words,
+        small,
+        medium,
+        large,
+        head.lengths,
+        setup,
+        new,
+        rect,
+    );
+    Head { lengths, ..after }
 }

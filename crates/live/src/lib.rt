@@ -2,60 +2,42 @@
 #![tactic(auto)]
 
 ghost use Rattle.std.specs.Prelude.{◌≡◌};
+ghost use Rattle.geometry.specs.Rectangles.{no_rect};
+ghost use Rattle.refusals.specs.Refusals.{answer_of, handed};
 ghost use Rattle.live.specs.Live.{ticket_answer, ticket_rect};
 ghost use Rattle.links.specs.Held.{Held};
 
 use geometry::Rectangle;
+use refusals::Refusal;
 use slots::NodeKind;
 use tickets::AllocId;
 
-// A number of the paper's list, with a live ticket's rectangle.
-#[derive(Clone, Copy)]
-pub struct Looked {
-    pub answer: u32,
-    pub rect: Rectangle,
-}
-
-// What a ticket is on tables of n slots: 0 if it is live, else 8, 9 or 10.
-pub fn ticket_answer(words: &[u32], generations: &[u8], n: u32, id: AllocId) -> u32
+// What a ticket is on tables of n slots: live, or refused with 8, 9 or 10.
+pub fn ticket_answer(words: &[u32], generations: &[u8], n: u32, id: AllocId) -> Result<(), Refusal>
     requires { Held words.now generations.now n }
-    ensures { result ≡ ticket_answer words.now generations.now n id }
+    ensures { answer_of result ≡ ticket_answer words.now generations.now n id }
 {
     let i = tickets::get_index(id);
     if i.0 >= n {
-        return 8;
+        return Err(Refusal::NoSuchSlot);
     }
-    let at = i.0 as usize;
-    let present = generations[at];
+    let present = generations[i.0 as usize];
     let told = tickets::get_generation(id);
     if present != told {
-        return 9;
+        return Err(Refusal::Generation);
     }
-    let node = table::node_at(words, i);
-    let kind = node.kind;
-    if !slots::same_kind(kind, NodeKind::Alloc) {
-        return 10;
+    if table::node_at(words, i).kind != NodeKind::Alloc {
+        return Err(Refusal::NotAlloc);
     }
-    0
+    Ok(())
 }
 
 // The rectangle of a live ticket.
-pub fn look_up(words: &[u32], generations: &[u8], n: u32, id: AllocId) -> Looked
+pub fn look_up(words: &[u32], generations: &[u8], n: u32, id: AllocId) -> Result<Rectangle, Refusal>
     requires { Held words.now generations.now n }
-    ensures { (result.answer ≡ ticket_answer words.now generations.now n id)
-        × (result.rect ≡ ticket_rect words.now generations.now n id) }
+    ensures { (answer_of result ≡ ticket_answer words.now generations.now n id)
+        × (handed no_rect result ≡ ticket_rect words.now generations.now n id) }
 {
-    let answer = ticket_answer(words, generations, n, id);
-    if answer != 0 {
-        return Looked {
-            answer: answer,
-            rect: geometry::no_rect(),
-        };
-    }
-    let node = table::node_at(words, tickets::get_index(id));
-    let rect = node.rect;
-    Looked {
-        answer: 0,
-        rect: rect,
-    }
+    ticket_answer(words, generations, n, id)?;
+    Ok(table::node_at(words, tickets::get_index(id)).rect)
 }

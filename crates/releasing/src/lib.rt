@@ -23,17 +23,22 @@ pub fn release(
         ≡ released (state head words.old g small.old medium.old large.old) i }
 {
     let setup = geometry::setup_of(head.sheet, head.options);
-    let first = head.spare;
-    let lengths = head.lengths;
     stores::set_kind(words, i, NodeKind::Free);
-    let end = climbs::climb(words, first, i, head.count);
-    let spare = end.spare;
-    let at = end.at;
-    let node = table::node_at(words, at);
-    let rect = node.rect;
-    let more = entries::add_free_rect(words, small, medium, large, lengths, setup, at, rect);
-    let mut after = head;
-    after.spare = spare;
-    after.lengths = more;
-    after
+    let end = climbs::climb(words, head.spare, i, head.count);
+    let node = table::node_at(words, end.at);
+    let lengths = entries::add_free_rect(
+        words,
+        small,
+        medium,
+        large,
+        head.lengths,
+        setup,
+        end.at,
+        node.rect,
+    );
+    Head {
+        spare: end.spare,
+        lengths,
+        ..head
+    }
 }

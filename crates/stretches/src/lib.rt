@@ -14,15 +14,12 @@ pub fn last_of(words: &[u32], n: u32, i: AllocIndex) -> AllocIndex
     ensures { result ≡ last_from n words.now i }
 {
     let mut at = i;
-    let mut left = n;
-    while left > 0 {
-        let node = table::node_at(words, at);
-        let next = node.next;
+    for _k in 0..n {
+        let next = table::node_at(words, at).next;
         if slots::is_none(next) {
             return at;
         }
         at = next;
-        left -= 1;
     }
     at
 }
@@ -33,14 +30,12 @@ pub fn reparent(words: &mut [u32], n: u32, p: AllocIndex, i: AllocIndex)
     ensures { words.new ≡ reparented n words.old p i }
 {
     let mut at = i;
-    let mut rest = n;
-    while rest > 0 {
+    for _j in 0..n {
         if slots::is_none(at) {
             return;
         }
-        let node = table::node_at(words, at);
+        let next = table::node_at(words, at).next;
         stores::set_parent(words, at, p);
-        at = node.next;
-        rest -= 1;
+        at = next;
     }
 }

@@ -23,16 +23,12 @@ pub fn stretched_rect(o: Orientation, rect: Rectangle, by: u32) -> Rectangle
 {
     match o {
         Orientation::Vertical => Rectangle {
-            x0: rect.x0,
-            y0: rect.y0,
-            x1: rect.x1,
             y1: rect.y1 + by,
+            ..rect
         },
         Orientation::Horizontal => Rectangle {
-            x0: rect.x0,
-            y0: rect.y0,
             x1: rect.x1 + by,
-            y1: rect.y1,
+            ..rect
         },
     }
 }
@@ -42,18 +38,8 @@ fn started_at(o: Orientation, rect: Rectangle, start: u32) -> Rectangle
     ensures { result ≡ started_at o rect start }
 {
     match o {
-        Orientation::Vertical => Rectangle {
-            x0: rect.x0,
-            y0: start,
-            x1: rect.x1,
-            y1: rect.y1,
-        },
-        Orientation::Horizontal => Rectangle {
-            x0: start,
-            y0: rect.y0,
-            x1: rect.x1,
-            y1: rect.y1,
-        },
+        Orientation::Vertical => Rectangle { y0: start, ..rect },
+        Orientation::Horizontal => Rectangle { x0: start, ..rect },
     }
 }
 
@@ -74,11 +60,5 @@ pub fn appended_rect(o: Orientation, rect: Rectangle, d: u32) -> Rectangle
 pub fn strip_rect(o: Orientation, old: Extent, new: Extent) -> Rectangle
     ensures { result ≡ strip_rect o old new }
 {
-    let whole = Rectangle {
-        x0: 0,
-        y0: 0,
-        x1: new.width,
-        y1: new.height,
-    };
-    started_at(o, whole, side_along(o, old))
+    started_at(o, Rectangle::from(new), side_along(o, old))
 }

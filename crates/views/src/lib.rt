@@ -6,13 +6,15 @@ ghost use Rattle.slots.specs.declared.NodeKind.TheVariants.{Alloc, Free};
 ghost use Rattle.steps.specs.State.{state};
 ghost use Rattle.outcomes.specs.Given.{given};
 ghost use Rattle.listings.specs.Listings.{filled};
+ghost use Rattle.refusals.specs.Refusals.{answer_of, handed};
 ghost use Rattle.views.specs.Views.{ListCall};
 
-use listings::Listing;
+use geometry::Size;
+use refusals::Refusal;
 use slots::NodeKind;
 use steps::Head;
 
-// The listing of a kind, into a lent list. 12: the lent list is shorter than the listing.
+// The listing of a kind, into a lent list: how many entries it has. 12: the lent list is shorter than the listing.
 fn for_each_rectangle(
     words: &[u32],
     generations: &[u8],
@@ -22,17 +24,11 @@ fn for_each_rectangle(
     head: Head,
     out: &mut [u32],
     kind: NodeKind,
-) -> Listing
+) -> Result<u32, Refusal>
     ensures { ListCall kind (state head words.now generations.now small.now medium.now large.now) out.old
-        (given result.answer (filled result.count out.new) (state head words.now generations.now small.now medium.now large.now)) }
+        (given (answer_of result) (filled (handed 0 result) out.new) (state head words.now generations.now small.now medium.now large.now)) }
 {
-    let found = audit::check(words, generations, small, medium, large, head);
-    if found != 0 {
-        return Listing {
-            answer: found,
-            count: 0,
-        };
-    }
+    audit::check(words, generations, small, medium, large, head)?;
     listings::list_slots(words, generations, out, kind, head.count)
 }
 
@@ -45,9 +41,9 @@ pub fn for_each_allocated_rectangle(
     large: &[u32],
     head: Head,
     out: &mut [u32],
-) -> Listing
+) -> Result<u32, Refusal>
     ensures { ListCall Alloc (state head words.now generations.now small.now medium.now large.now) out.old
-        (given result.answer (filled result.count out.new) (state head words.now generations.now small.now medium.now large.now)) }
+        (given (answer_of result) (filled (handed 0 result) out.new) (state head words.now generations.now small.now medium.now large.now)) }
 {
     for_each_rectangle(
         words,
@@ -70,9 +66,9 @@ pub fn for_each_free_rectangle(
     large: &[u32],
     head: Head,
     out: &mut [u32],
-) -> Listing
+) -> Result<u32, Refusal>
     ensures { ListCall Free (state head words.now generations.now small.now medium.now large.now) out.old
-        (given result.answer (filled result.count out.new) (state head words.now generations.now small.now medium.now large.now)) }
+        (given (answer_of result) (filled (handed 0 result) out.new) (state head words.now generations.now small.now medium.now large.now)) }
 {
     for_each_rectangle(
         words,
@@ -87,9 +83,8 @@ pub fn for_each_free_rectangle(
 }
 
 // The sheet's size, as the head has it.
-pub fn size(head: Head) -> geometry::Size
+pub fn size(head: Head) -> Size
     ensures { result ≡ head.sheet }
 {
-    let sheet = head.sheet;
-    sheet
+    head.sheet
 }

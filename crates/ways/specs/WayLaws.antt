@@ -1,6 +1,6 @@
 -- The laws by which it is worked out how far a sheet grows, from its two setups.
 -- Assumes nothing.
-use Rattle.std.specs.Prelude.{◌≡◌, refl, ℕ, ◌-◌, ◌≤◌}
+use Rattle.std.specs.Prelude.{◌≡◌, ℕ, ◌-◌, ◌≤◌}
 use Rattle.geometry.specs.Rectangles.{flip}
 use Rattle.geometry.specs.Sides.{natural, setup_of}
 use Rattle.geometry.specs.declared.AllocatorOptions.{AllocatorOptions}

@@ -20,21 +20,16 @@ pub fn ways_of(o: Orientation, old: Size, new: Size, options: AllocatorOptions) 
     requires { (natural old.width ≤ natural new.width) × (natural old.height ≤ natural new.height) }
     ensures { result ≡ ways_of o old new }
 {
-    let before = geometry::setup_of(old, options);
-    let after = geometry::setup_of(new, options);
-    let from = before.sheet;
-    let to = after.sheet;
+    let from = geometry::setup_of(old, options).sheet;
+    let to = geometry::setup_of(new, options).sheet;
     let by = Extent {
         width: to.width - from.width,
         height: to.height - from.height,
     };
     let over = geometry::flipped(o);
-    let along = strips::side_along(o, by);
-    let across = strips::side_along(over, by);
-    let strip = strips::strip_rect(over, from, to);
     Ways {
-        along: along,
-        across: across,
-        strip: strip,
+        along: strips::side_along(o, by),
+        across: strips::side_along(over, by),
+        strip: strips::strip_rect(over, from, to),
     }
 }

@@ -15,10 +15,7 @@ use tickets::AllocId;
 pub fn entry_words(kind: NodeKind) -> usize
     ensures { (result ≡ entry_words kind) × (result ≤ 5) }
 {
-    if slots::same_kind(kind, NodeKind::Alloc) {
-        return 5;
-    }
-    4
+    if kind == NodeKind::Alloc { 5 } else { 4 }
 }
 
 // Writes four corners from a place on.
@@ -37,7 +34,7 @@ fn put_entry(out: &mut [u32], at: usize, kind: NodeKind, id: AllocId, rect: Rect
     requires { at + entry_words kind ≤ length out.old }
     ensures { bag out.new result ≡ wrote (bag out.old at) (entry_of kind id rect) }
 {
-    if slots::same_kind(kind, NodeKind::Alloc) {
+    if kind == NodeKind::Alloc {
         out[at] = id.0;
         put_corners(out, at + 1, rect);
         return at + 5;
@@ -59,12 +56,9 @@ pub fn list_slot(
     ensures { bag out.new result ≡ wrote (bag out.old at) (entry_at words.now generations.now kind i.0) }
 {
     let node = table::node_at(words, i);
-    let own = node.kind;
-    if !slots::same_kind(own, kind) {
+    if node.kind != kind {
         return at;
     }
-    let k = i.0 as usize;
-    let id = tickets::alloc_id(i, generations[k]);
-    let rect = node.rect;
-    put_entry(out, at, kind, id, rect)
+    let id = tickets::alloc_id(i, generations[i.0 as usize]);
+    put_entry(out, at, kind, id, node.rect)
 }

@@ -1,7 +1,6 @@
 -- `across::new_root` meets its contract: two slots are taken and written, and the old top chain, which keeps its links, gets its new parent.
 -- Assumes nothing.
-use Rattle.across.specs.AcrossLaws.{root_has, two_can, pair_has, chain_kept, crossed_done}
-use borrow.Author.Rules.{rules}
+use Rattle.across.specs.AcrossLaws.{two_can, pair_has, chain_kept, crossed_done}
 use Rattle.across.proofs.new_root.Goals as goal
 
 pub take_two-new-requires : goal.take_two-new-requires
@@ -14,4 +13,4 @@ pub reparent-requires : goal.reparent-requires
 reparent-requires c = chain_kept c.requires c.take_two-new.ensures _ _ _ c.put_pair.ensures
 
 pub returns : goal.returns
-returns c = (c.take_two-new.ensures, crossed_done _ _ _ _ _ _ _ _ _ _ c.node_at-node.ensures c.flipped-over.ensures c.no_rect-zero.ensures c.put_pair.ensures c.reparent.ensures)
+returns c = (c.take_two-new.ensures, crossed_done _ _ _ _ _ _ _ _ _ _ c.node_at-o.ensures c.flipped-over.ensures c.no_rect-zero.ensures c.put_pair.ensures c.reparent.ensures)

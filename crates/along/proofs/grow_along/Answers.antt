@@ -1,7 +1,6 @@
 -- `along::grow_along` meets its contract: the last slot of the top chain is found, and stretched or followed by a new one.
 -- Assumes nothing.
-use mathlib.Core.Path.{sym, ◌∙◌}
-use Rattle.along.specs.AlongLaws.{first_has, chain_has_lem, last_has, last_room, stretch_ready, append_ready, stretch_is_along, append_is_along}
+use Rattle.along.specs.AlongLaws.{chain_has_lem, last_has, last_room, stretch_ready, append_ready, stretch_is_along, append_is_along}
 use borrow.Author.Rules.{rules}
 use Rattle.along.proofs.grow_along.Goals as goal
 
@@ -15,16 +14,16 @@ pub stretched_rect-longer-requires : goal.stretched_rect-longer-requires
 stretched_rect-longer-requires c = last_room c.requires c.last_of-i.ensures c.node_at-last.ensures
 
 pub stretch-requires : goal.stretch-requires
-stretch-requires c = stretch_ready c.requires c.last_of-i.ensures c.node_at-last.ensures c.node_at-top.ensures c.stretched_rect-longer.ensures
+stretch-requires c = stretch_ready c.requires c.last_of-i.ensures c.node_at-last.ensures c.node_at-o.ensures c.stretched_rect-longer.ensures
 
-pub returns-then-same_kind : goal.returns-then-same_kind
-returns-then-same_kind c = stretch_is_along c.requires c.last_of-i.ensures c.node_at-last.ensures c.node_at-top.ensures (sym c.same_kind.ensures ∙ c.if-same_kind.true) c.stretched_rect-longer.ensures (c.stretch.ensures _)
+pub returns-then-eq : goal.returns-then-eq
+returns-then-eq c = stretch_is_along c.requires c.last_of-i.ensures c.node_at-last.ensures c.node_at-o.ensures ((search rules)) c.stretched_rect-longer.ensures (c.stretch.ensures _)
 
 pub appended_rect-new-requires : goal.appended_rect-new-requires
 appended_rect-new-requires c = last_room c.requires c.last_of-i.ensures c.node_at-last.ensures
 
 pub append_to-requires : goal.append_to-requires
-append_to-requires c = append_ready c.requires c.last_of-i.ensures c.node_at-last.ensures c.node_at-top.ensures (sym c.same_kind.ensures ∙ c.if-same_kind.false) c.appended_rect-new.ensures
+append_to-requires c = append_ready c.requires c.last_of-i.ensures c.node_at-last.ensures c.node_at-o.ensures ((search rules)) c.appended_rect-new.ensures
 
 pub returns : goal.returns
-returns c = append_is_along c.requires c.last_of-i.ensures c.node_at-last.ensures c.node_at-top.ensures (sym c.same_kind.ensures ∙ c.if-same_kind.false) c.appended_rect-new.ensures c.append_to.ensures
+returns c = append_is_along c.requires c.last_of-i.ensures c.node_at-last.ensures c.node_at-o.ensures ((search rules)) c.appended_rect-new.ensures c.append_to.ensures

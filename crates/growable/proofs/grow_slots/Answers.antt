@@ -2,7 +2,6 @@
 -- Assumes nothing.
 use native.Mathlib.Omega.{arith}
 use Rattle.growable.specs.GrowableLaws.{along_most, slots_lone, slots_across, slots_along_alone}
-use borrow.Author.Rules.{rules}
 use Rattle.growable.proofs.grow_slots.Goals as goal
 
 pub returns-then-is_lone : goal.returns-then-is_lone
@@ -12,7 +11,7 @@ pub overflow_add-result : goal.overflow_add-result
 overflow_add-result c = record { fits = omega (arith, along_most _ _ _ c.slots_along-along.ensures) }
 
 pub returns-then-far-gt0 : goal.returns-then-far-gt0
-returns-then-far-gt0 c = λ g a b x. slots_across _ _ c.is_lone.ensures c.if-is_lone.false c.node_at-node.ensures c.ways_of-far.ensures c.slots_along-along.ensures c.if-far-gt0.true
+returns-then-far-gt0 c = λ g a b x. slots_across _ _ c.is_lone.ensures c.if-is_lone.false c.node_at-o.ensures c.ways_of-far.ensures c.slots_along-along.ensures c.if-far-gt0.true
 
-pub returns : goal.returns
-returns c = λ g a b x. slots_along_alone _ _ c.is_lone.ensures c.if-is_lone.false c.node_at-node.ensures c.ways_of-far.ensures c.slots_along-along.ensures c.if-far-gt0.false
+pub returns-else-far-gt0 : goal.returns-else-far-gt0
+returns-else-far-gt0 c = λ g a b x. slots_along_alone _ _ c.is_lone.ensures c.if-is_lone.false c.node_at-o.ensures c.ways_of-far.ensures c.slots_along-along.ensures c.if-far-gt0.false

@@ -1,7 +1,4 @@
-use native.Mathlib.Omega.{arith}
-use native.Mathlib.Nat.{mul-le-mul}
 use Rattle.listings.proofs.ListingLaws.{listing_short, listing_room, listing_done}
-use borrow.Author.Rules.{rules}
 use Rattle.listings.proofs.list_slots.Goals as goal
 
 pub returns-then-out-count : goal.returns-then-out-count
