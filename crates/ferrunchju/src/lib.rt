@@ -39,7 +39,7 @@ pub extern "C" fn ferrunchju_start(
         ≡ start_call (size_of width height) (options_of alignment_width alignment_height small_threshold large_threshold)
         (state_at head.old words.old generations.old small.old medium.old large.old) }
 {
-    let before = heads::head_of(head);
+    let mut after = heads::head_of(head);
     let sheet = heads::size_of(width, height);
     let options = heads::options_of(
         alignment_width,
@@ -53,12 +53,12 @@ pub extern "C" fn ferrunchju_start(
         small,
         medium,
         large,
-        before,
+        &mut after,
         sheet,
         options,
     );
-    heads::put_head(head, begun.head);
-    begun.answer
+    heads::put_head(head, after);
+    refusals::answer_of(begun)
 }
 
 // The same sheet again, empty, with the size and the options given: 0, 1 or 3.
@@ -110,10 +110,10 @@ pub extern "C" fn ferrunchju_clear(
     ensures { given result nothing (state_at head.new words.new generations.new small.new medium.new large.new)
         ≡ clear_call (state_at head.old words.old generations.old small.old medium.old large.old) }
 {
-    let before = heads::head_of(head);
-    let begun = starts::clear(words, generations, small, medium, large, before);
-    heads::put_head(head, begun.head);
-    begun.answer
+    let mut after = heads::head_of(head);
+    let begun = starts::clear(words, generations, small, medium, large, &mut after);
+    heads::put_head(head, after);
+    refusals::answer_of(begun)
 }
 
 // A rectangle for a requested size, with its ticket: 0, 1, 2, 4, 5, 6 or 7.
@@ -132,12 +132,13 @@ pub extern "C" fn ferrunchju_allocate(
     ensures { AllocateCall (size_of width height) (state_at head.old words.old generations.old small.old medium.old large.old)
         (given result (crop_at out.new) (state_at head.new words.new generations.new small.new medium.new large.new)) }
 {
-    let before = heads::head_of(head);
+    let mut changed = heads::head_of(head);
     let size = heads::size_of(width, height);
-    let got = allocate::allocate(words, generations, small, medium, large, before, size);
-    heads::put_changes(head, got.head);
-    heads::put_crop(out, got.id, got.rectangle);
-    got.answer
+    let got = allocate::allocate(words, generations, small, medium, large, &mut changed, size);
+    heads::put_changes(head, changed);
+    let crop = taking::handed_over(got);
+    heads::put_crop(out, crop.id, crop.rectangle);
+    refusals::answer_of(got)
 }
 
 // Frees a live ticket: 0, 1, 2, 8, 9 or 10.
@@ -154,18 +155,18 @@ pub extern "C" fn ferrunchju_deallocate(
     ensures { DeallocateCall (state_at head.old words.old generations.now small.old medium.old large.old) (ticket_of ticket)
         (given result nothing (state_at head.new words.new generations.now small.new medium.new large.new)) }
 {
-    let before = heads::head_of(head);
+    let mut after = heads::head_of(head);
     let freed = deallocate::deallocate(
         words,
         generations,
         small,
         medium,
         large,
-        before,
+        &mut after,
         AllocId(ticket),
     );
-    heads::put_changes(head, freed.head);
-    freed.answer
+    heads::put_changes(head, after);
+    refusals::answer_of(freed)
 }
 
 // Grows the sheet to another size: 0, 1, 2, 11, 3 or 7.
@@ -183,11 +184,11 @@ pub extern "C" fn ferrunchju_grow(
     ensures { GrowCall (state_at head.old words.old generations.old small.old medium.old large.old) (size_of width height)
         (given result nothing (state_at head.new words.new generations.new small.new medium.new large.new)) }
 {
-    let before = heads::head_of(head);
+    let mut after = heads::head_of(head);
     let size = heads::size_of(width, height);
-    let grown = grow::grow(words, generations, small, medium, large, before, size);
-    heads::put_head(head, grown.head);
-    grown.answer
+    let grown = grow::grow(words, generations, small, medium, large, &mut after, size);
+    heads::put_head(head, after);
+    refusals::answer_of(grown)
 }
 
 // A live ticket's rectangle: 0, 1, 2, 8, 9 or 10.
@@ -205,18 +206,17 @@ pub extern "C" fn ferrunchju_lookup(
     ensures { IndexCall (state_at head.now words.now generations.now small.now medium.now large.now) (ticket_of ticket)
         (given result (rect_at 0 out.new) (state_at head.now words.now generations.now small.now medium.now large.now)) }
 {
-    let before = heads::head_of(head);
     let looked = lookup::index(
         words,
         generations,
         small,
         medium,
         large,
-        before,
+        heads::head_of(head),
         AllocId(ticket),
     );
-    heads::put_rect(out, looked.rect);
-    looked.answer
+    heads::put_rect(out, looked.unwrap_or(geometry::no_rect()));
+    refusals::answer_of(looked)
 }
 
 // The Alloc slots in slot order, five words to an entry, the ticket and the corners: 0, 1, 2 or 12.
@@ -234,18 +234,17 @@ pub extern "C" fn ferrunchju_list_allocated(
     ensures { ListCall Alloc (state_at head.now words.now generations.now small.now medium.now large.now) list.old
         (given result (filled count.new list.new) (state_at head.now words.now generations.now small.now medium.now large.now)) }
 {
-    let before = heads::head_of(head);
     let listed = views::for_each_allocated_rectangle(
         words,
         generations,
         small,
         medium,
         large,
-        before,
+        heads::head_of(head),
         list,
     );
-    *count = listed.count;
-    listed.answer
+    *count = listed.unwrap_or(0);
+    refusals::answer_of(listed)
 }
 
 // The Free slots in slot order, four words to an entry, the corners: 0, 1, 2 or 12.
@@ -263,18 +262,17 @@ pub extern "C" fn ferrunchju_list_free(
     ensures { ListCall Free (state_at head.now words.now generations.now small.now medium.now large.now) list.old
         (given result (filled count.new list.new) (state_at head.now words.now generations.now small.now medium.now large.now)) }
 {
-    let before = heads::head_of(head);
     let listed = views::for_each_free_rectangle(
         words,
         generations,
         small,
         medium,
         large,
-        before,
+        heads::head_of(head),
         list,
     );
-    *count = listed.count;
-    listed.answer
+    *count = listed.unwrap_or(0);
+    refusals::answer_of(listed)
 }
 
 // Whether one Free slot is the whole sheet, 1 or 0: 0, 1 or 2.
@@ -291,10 +289,16 @@ pub extern "C" fn ferrunchju_is_empty(
     ensures { (empty.new ≤ 1)
         × EmptyCall (state_at head.now words.now generations.now small.now medium.now large.now) (given result (eqb empty.new 1) (state_at head.now words.now generations.now small.now medium.now large.now)) }
 {
-    let before = heads::head_of(head);
-    let seen = empty::is_empty(words, generations, small, medium, large, before);
-    *empty = heads::flag_of(seen.empty);
-    seen.answer
+    let seen = empty::is_empty(
+        words,
+        generations,
+        small,
+        medium,
+        large,
+        heads::head_of(head),
+    );
+    *empty = heads::flag_of(seen.unwrap_or(false));
+    refusals::answer_of(seen)
 }
 
 // The sheet's size, as the head has it.
@@ -302,8 +306,7 @@ pub extern "C" fn ferrunchju_is_empty(
 pub extern "C" fn ferrunchju_size(head: &[u32; 12], out: &mut [u32; 2])
     ensures { size_at 0 out.new ≡ (head_at head.now).sheet }
 {
-    let before = heads::head_of(head);
-    heads::put_size(out, views::size(before));
+    heads::put_size(out, views::size(heads::head_of(head)));
 }
 
 // The check of the tables, whatever they hold: 0 sound, 1 a table length is out of range, 2 not sound.
@@ -318,6 +321,12 @@ pub extern "C" fn ferrunchju_check(
 ) -> u32
     ensures { Checked (state_at head.now words.now generations.now small.now medium.now large.now) result }
 {
-    let before = heads::head_of(head);
-    audit::check(words, generations, small, medium, large, before)
+    refusals::answer_of(audit::check(
+        words,
+        generations,
+        small,
+        medium,
+        large,
+        heads::head_of(head),
+    ))
 }

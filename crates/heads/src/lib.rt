@@ -11,33 +11,26 @@ use steps::Head;
 use tickets::AllocId;
 
 // The signed number whose bits a word has.
+#[tactic(auto, using(crate::specs::SignedLaws::signed_read), unfolding(crate::specs::Words::signed_of))]
 fn signed_of(word: u32) -> i32
     ensures { result ≡ signed_of word }
 {
-    if word < 2147483648 {
-        return word as i32;
-    }
-    -1 - ((4294967295 - word) as i32)
+    word.cast_signed()
 }
 
 // The word with the bits of a signed number.
+#[tactic(auto, using(crate::specs::SignedLaws::read_back), unfolding(crate::specs::Words::signed_of))]
 fn word_of(number: i32) -> u32
     ensures { signed_of result ≡ number }
 {
-    if number < 0 {
-        return 4294967295 - ((-1 - number) as u32);
-    }
-    number as u32
+    number.cast_unsigned()
 }
 
 // A size and options by their numbers.
 pub fn size_of(width: i32, height: i32) -> Size
     ensures { result ≡ size_of width height }
 {
-    Size {
-        width: width,
-        height: height,
-    }
+    Size { width, height }
 }
 
 pub fn options_of(
@@ -53,8 +46,8 @@ pub fn options_of(
             width: alignment_width,
             height: alignment_height,
         },
-        small: small,
-        large: large,
+        small,
+        large,
     }
 }
 
@@ -73,6 +66,7 @@ fn word_of_length(length: usize) -> u32
 }
 
 // The head that twelve words hold.
+#[tactic(auto, using(crate::specs::SignedLaws::signed_read), unfolding(crate::specs::Words::head_at))]
 pub fn head_of(words: &[u32; 12]) -> Head
     ensures { (result ≡ head_at words.now) × ShortLists result }
 {
@@ -101,38 +95,40 @@ pub fn head_of(words: &[u32; 12]) -> Head
 }
 
 // Writes a head over twelve words, from which it can be read again.
+#[tactic(auto, using(crate::specs::SignedLaws::read_back), unfolding(crate::specs::Words::head_at))]
 pub fn put_head(words: &mut [u32; 12], head: Head)
     requires { ShortLists head }
     ensures { head_at words.new ≡ head }
 {
-    let sheet = head.sheet;
-    let options = head.options;
-    let alignment = options.alignment;
-    let lengths = head.lengths;
     *words = [
-        word_of(sheet.width),
-        word_of(sheet.height),
-        word_of(alignment.width),
-        word_of(alignment.height),
-        word_of(options.small),
-        word_of(options.large),
+        word_of(head.sheet.width),
+        word_of(head.sheet.height),
+        word_of(head.options.alignment.width),
+        word_of(head.options.alignment.height),
+        word_of(head.options.small),
+        word_of(head.options.large),
         head.root.0,
         head.spare.0,
         head.count,
-        word_of_length(lengths.small),
-        word_of_length(lengths.medium),
-        word_of_length(lengths.large),
+        word_of_length(head.lengths.small),
+        word_of_length(head.lengths.medium),
+        word_of_length(head.lengths.large),
     ];
 }
 
 // Writes what allocate and deallocate change of a head, the spare_chain head, the slot count and the list lengths, over twelve words; the
 // others stay.
+#[tactic(auto, unfolding(crate::specs::Words::head_at))]
 pub fn put_changes(words: &mut [u32; 12], head: Head)
     requires { ShortLists head }
     ensures { head_at words.new ≡ with_changes (head_at words.old) head }
 {
-    let chain = head.spare;
-    let left = head.lengths;
+    let Head {
+        spare,
+        count,
+        lengths,
+        ..
+    } = head;
     *words = [
         words[0],
         words[1],
@@ -141,15 +137,16 @@ pub fn put_changes(words: &mut [u32; 12], head: Head)
         words[4],
         words[5],
         words[6],
-        chain.0,
-        head.count,
-        word_of_length(left.small),
-        word_of_length(left.medium),
-        word_of_length(left.large),
+        spare.0,
+        count,
+        word_of_length(lengths.small),
+        word_of_length(lengths.medium),
+        word_of_length(lengths.large),
     ];
 }
 
 // Writes a ticket and its rectangle over five words.
+#[tactic(auto, unfolding(crate::specs::Words::ticket_at, crate::specs::Words::rect_at))]
 pub fn put_crop(words: &mut [u32; 5], id: AllocId, rect: Rectangle)
     ensures { (ticket_at words.new ≡ id) × (rect_at 1 words.new ≡ rect) }
 {
@@ -157,6 +154,7 @@ pub fn put_crop(words: &mut [u32; 5], id: AllocId, rect: Rectangle)
 }
 
 // Writes a rectangle over four words.
+#[tactic(auto, unfolding(crate::specs::Words::rect_at))]
 pub fn put_rect(words: &mut [u32; 4], rect: Rectangle)
     ensures { rect_at 0 words.new ≡ rect }
 {
@@ -174,5 +172,5 @@ pub fn put_size(words: &mut [u32; 2], size: Size)
 pub fn flag_of(yes: bool) -> u32
     ensures { (result ≤ 1) × (eqb result 1 ≡ yes) }
 {
-    if yes { 1 } else { 0 }
+    u32::from(yes)
 }

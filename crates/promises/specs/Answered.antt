@@ -1,6 +1,6 @@
 -- Every answer is one of the call's own.
 -- Assumes nothing.
-use Rattle.std.specs.Prelude.{◌≡◌, refl, Bool, true, false, List, [], ◌∷◌, ◌⊎◌, ℕ, length, leb}
+use Rattle.std.specs.Prelude.{◌≡◌, refl, Bool, true, false, List, [], ◌∷◌, ◌⊎◌, Result, ℕ, length, leb}
 use Rattle.std.proofs.Common.{ap, inl, inr}
 use Rattle.geometry.specs.Choice.{pick}
 use Rattle.geometry.specs.Rectangles.{no_rect}
@@ -9,9 +9,9 @@ use Rattle.geometry.specs.declared.AllocatorOptions.{AllocatorOptions}
 use Rattle.geometry.specs.declared.Extent.{Extent}
 use Rattle.geometry.specs.declared.Rectangle.{Rectangle}
 use Rattle.geometry.specs.declared.Size.{Size}
-use Rattle.rounding.specs.Rounding.{request_of}
-use Rattle.rounding.specs.declared.Request.{Request}
-use Rattle.rounding.specs.declared.Request.TheVariants.{Of, NotPositive, TooLarge}
+use Rattle.rounding.specs.RequestLaws.{Outcome, not_positive, too_large, accepted}
+use Rattle.rounding.proofs.RequestLaws.{request_outcome}
+use Rattle.refusals.specs.declared.Refusal.{Refusal}
 use Rattle.slots.specs.declared.NodeKind.{NodeKind}
 use Rattle.tickets.specs.declared.AllocId.{AllocId}
 use Rattle.tickets.specs.Tickets.{slot_of}
@@ -58,13 +58,13 @@ start_answers z o s = go (lent s) (valid_setup z o)
 -- Allocate, on sound tables.
 pub allocated_answers : (s : State) (z : Size) → OneOf (allocated s z).answer (0 ∷ 4 ∷ 5 ∷ 6 ∷ 7 ∷ [])
 unfolding allocated allocated_for taken
-allocated_answers s z = go (request_of (setup_of s.head.sheet s.head.options) z)
+allocated_answers s z = go (request_outcome (setup_of s.head.sheet s.head.options) z)
   where
-    go : (r : Request) → OneOf (allocated_for s r).answer (0 ∷ 4 ∷ 5 ∷ 6 ∷ 7 ∷ [])
-    go NotPositive = inr (inl refl)
-    go TooLarge = inr (inr (inl refl))
-    go (Of e) =
-        grant_cases s e (λ g. OneOf g.answer (0 ∷ 4 ∷ 5 ∷ 6 ∷ 7 ∷ [])) (λ _. inr (inr (inr (inl refl)))) (λ _ _ _ _ _. inr (inr (inr (inr (inl refl)))))
+    go : {r : Result Extent Refusal} → Outcome (setup_of s.head.sheet s.head.options) z r → OneOf (allocated_for s r).answer (0 ∷ 4 ∷ 5 ∷ 6 ∷ 7 ∷ [])
+    go (not_positive h) = inr (inl refl)
+    go (too_large x y h) = inr (inr (inl refl))
+    go (accepted x y h k) =
+        grant_cases s _ (λ g. OneOf g.answer (0 ∷ 4 ∷ 5 ∷ 6 ∷ 7 ∷ [])) (λ _. inr (inr (inr (inl refl)))) (λ _ _ _ _ _. inr (inr (inr (inr (inl refl)))))
         (λ _ _ _ _ _. inl refl)
 
 -- A ticket, on sound tables.

@@ -3,7 +3,7 @@
 -- leaves them sound whatever they held before. Free any set of different live tickets in any two orders: the same slots stay live, with the
 -- same rectangles, kinds, links and generations. Free all of them, and one sheet-sized free rectangle is left, at the root.
 -- Assumes nothing.
-use Rattle.std.specs.Prelude.{◌≡◌, refl, List, ◌↔◌, ℕ, ◌+◌, ◌*◌, ◌^◌, ◌<◌}
+use Rattle.std.specs.Prelude.{◌≡◌, refl, List, Result, Ok, ◌↔◌, ℕ, ◌+◌, ◌*◌, ◌^◌, ◌<◌}
 use Rattle.std.proofs.Common.{ap, sym, ◌∙◌, inl, inr, mul-le-mul, arith}
 use Rattle.std.proofs.Math.Decide.{ℕ_discrete}
 use Rattle.geometry.specs.Measures.{area_of}
@@ -13,7 +13,7 @@ use Rattle.geometry.specs.TestLaws.{and_true_each}
 use Rattle.geometry.specs.declared.AllocatorOptions.{AllocatorOptions}
 use Rattle.geometry.specs.declared.Extent.{Extent}
 use Rattle.geometry.specs.declared.Size.{Size}
-use Rattle.rounding.specs.declared.Request.TheVariants.{Of}
+use Rattle.refusals.specs.declared.Refusal.{Refusal}
 use Rattle.tickets.specs.Tickets.{slot_of}
 use Rattle.tickets.specs.declared.AllocId.{AllocId}
 use Rattle.steps.specs.State.{State}
@@ -66,13 +66,13 @@ areas_fit s S =
     rw (areas_make_the_sheet s S) (omega (arith, mul-le-mul w t))
 
 -- NO SPACE. On sound tables, past 4 and 5, where the rounded request is e, 6 is given exactly when no Free rectangle is as wide and as tall as e.
-pub no_space_is_exact : (z : Size) (s : State) (k : ℕ) (t : State) (e : Extent) → LentOf s → Sound s → asks s z ≡ Of e → Leaves (Allocate z) s k t
+pub no_space_is_exact : (z : Size) (s : State) (k : ℕ) (t : State) (e : Extent) → LentOf s → Sound s → asks s z ≡ Ok e → Leaves (Allocate z) s k t
     → (k ≡ 6) ↔ ((x : ℕ) → Roomy s e x → ⊥)
 no_space_is_exact z s k t e L S q (_, call) =
     let h = allocate_gives_6 s z call in
     (λ n. let f = (h.0 n).2 in rw (same_request (sym f.1 ∙ q)) at f.2, λ none. h.1 (L, S, (e, q, none)))
   where
-    same_request : {d g : Extent} → Of d ≡ Of g → d ≡ g
+    same_request : {d g : Extent} → ◌≡◌ {A = Result Extent Refusal} (Ok d) (Ok g) → d ≡ g
     same_request p = cc
 
 started : (z : Size) (o : AllocatorOptions) (s : State) (k : ℕ) (t : State) → Leaves (Start z o) s k t → LentOf s → Sound s → Sound t × LentOf t

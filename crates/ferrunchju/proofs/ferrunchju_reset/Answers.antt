@@ -1,6 +1,5 @@
 -- `ferrunchju::ferrunchju_reset` meets its contract: it is a start, of the numbers that it is given.
 -- Assumes nothing.
-use borrow.Author.Rules.{rules}
 use Rattle.heads.specs.SignedLaws.{read_back}
 use Rattle.ferrunchju.proofs.ferrunchju_reset.Goals as goal
 
