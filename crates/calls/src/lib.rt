@@ -1,226 +1,144 @@
-// The calls that are replayed, on tables of our own. A start finds them as the call before left them; every other call begins
-// with the state that the list told of.
+// The calls that are replayed, on a state of our own.
 #![tactic(auto)]
 
-mod looks;
-mod rebuilt;
-
-use geometry::Rectangle;
-pub use looks::is_empty_as_told;
-use outcomes::Outcome;
-use steps::Head;
-use taking::Allocation;
+use geometry::{AllocatorOptions, Rectangle, Size};
 use tickets::AllocId;
+use told::State;
 
-// What a call of ours gave: whether its answers are those on the line, and the head after it.
+// A call that the list tells of: all are done, but for an allocate, whose answer stands on its line, with ticket and rectangle.
 #[derive(Clone, Copy)]
-pub struct Given {
-    pub agrees: bool,
-    pub head: Head,
+pub enum Call {
+    Start(Size, AllocatorOptions),
+    Allocate {
+        size: Size,
+        answer: u32,
+        id: AllocId,
+        rectangle: Rectangle,
+    },
+    Deallocate(AllocId),
+    Grow(Size),
+    Clear,
+    Reset(Size, AllocatorOptions),
 }
 
-// A call that the list tells of as done.
-fn done(ours: Outcome) -> Given {
-    let head = ours.head;
-    Given {
-        agrees: ours.answer == 0,
-        head: head,
-    }
+// Whether the slot and the generation of a ticket make that ticket.
+fn is_rebuilt(id: AllocId) -> bool {
+    tickets::alloc_id(tickets::get_index(id), tickets::get_generation(id)) == id
 }
 
-// Whether the rectangle is the one on a line of kind 2.
-fn is_rectangle(line: &[u32; 128], ours: Rectangle) -> bool {
-    if ours.x0 != line[5] {
-        return false;
-    }
-    if ours.y0 != line[6] {
-        return false;
-    }
-    if ours.x1 != line[7] {
-        return false;
-    }
-    ours.y1 == line[8]
-}
-
-// Whether answer, ticket and rectangle are those on a line of kind 2.
-fn is_allocation(line: &[u32; 128], ours: Allocation) -> bool {
-    let id = ours.id;
-    let rectangle = ours.rectangle;
-    if ours.answer != line[3] {
-        return false;
-    }
-    if id.0 != line[4] {
-        return false;
-    }
-    is_rectangle(line, rectangle)
-}
-
-fn allocation(line: &[u32; 128], ours: Allocation) -> Given {
-    let after = ours.head;
-    Given {
-        agrees: is_allocation(line, ours),
-        head: after,
-    }
-}
-
-// Whether the ticket of a line of kind 3 is live, and its slot and generation make it again.
-fn is_ticket(
-    line: &[u32; 128],
-    words: &[u32; 2048],
-    generations: &[u8; 256],
-    small: &[u32; 2048],
-    medium: &[u32; 2048],
-    large: &[u32; 2048],
-    head: Head,
-) -> bool {
-    let looked = lookup::index(
-        words,
-        generations,
-        small,
-        medium,
-        large,
-        head,
-        AllocId(line[1]),
+// Whether a ticket is live, and its slot and generation make it again.
+fn is_ticket(state: &State, id: AllocId) -> bool {
+    let rectangle = lookup::index(
+        &state.words,
+        &state.generations,
+        &state.small,
+        &state.medium,
+        &state.large,
+        state.head,
+        id,
     );
-    if looked.answer != 0 {
-        return false;
-    }
-    rebuilt::is_rebuilt(line[1])
+    rectangle.is_ok() && is_rebuilt(id)
 }
 
-// A live ticket is freed.
-fn freed(live: bool, ours: Outcome) -> Given {
-    let after = ours.head;
-    let mut agrees = false;
-    if live {
-        agrees = ours.answer == 0;
-    }
-    Given {
-        agrees: agrees,
-        head: after,
-    }
+// Whether the tables are sound, and the sheet is empty just where that is said.
+pub fn is_empty_as_told(state: &State, empty: bool) -> bool {
+    let ours = empty::is_empty(
+        &state.words,
+        &state.generations,
+        &state.small,
+        &state.medium,
+        &state.large,
+        state.head,
+    );
+    ours == Ok(empty)
 }
 
-// The call of a line of kind 1, 5 or 6: 1 w h aw ah small large; 5; 6 w h aw ah small large.
-fn begin(
-    line: &[u32; 128],
-    words: &mut [u32; 2048],
-    generations: &mut [u8; 256],
-    small: &mut [u32; 2048],
-    medium: &mut [u32; 2048],
-    large: &mut [u32; 2048],
-    head: Head,
-) -> Outcome {
-    let sheet = told::size_on(line);
-    let options = told::options_on(line);
-    match line[0] {
-        1 => starts::start(
-            words,
-            generations,
-            small,
-            medium,
-            large,
-            head,
-            sheet,
-            options,
-        ),
-        5 => starts::clear(words, generations, small, medium, large, head),
-        _ => starts::reset(
-            words,
-            generations,
-            small,
-            medium,
-            large,
-            head,
-            sheet,
-            options,
-        ),
-    }
-}
-
-// The call of a line: 2 w h answer ticket x0 y0 x1 y1; 3 ticket; 4 w h; or one of kind 1, 5 or 6.
-fn call(
-    line: &[u32; 128],
-    words: &mut [u32; 2048],
-    generations: &mut [u8; 256],
-    small: &mut [u32; 2048],
-    medium: &mut [u32; 2048],
-    large: &mut [u32; 2048],
-    head: Head,
-) -> Given {
-    let size = told::size_on(line);
-    let id = AllocId(line[1]);
-    match line[0] {
-        2 => allocation(
-            line,
-            allocate::allocate(words, generations, small, medium, large, head, size),
-        ),
-        3 => {
-            let live = is_ticket(line, words, generations, small, medium, large, head);
-            freed(
-                live,
-                deallocate::deallocate(words, generations, small, medium, large, head, id),
-            )
+impl Call {
+    // Makes the call: whether its answers are those that the list tells of.
+    pub fn make(&self, ours: &mut State) -> bool {
+        match *self {
+            Call::Start(sheet, options) => {
+                starts::start(
+                    &mut ours.words,
+                    &mut ours.generations,
+                    &mut ours.small,
+                    &mut ours.medium,
+                    &mut ours.large,
+                    &mut ours.head,
+                    sheet,
+                    options,
+                )
+                .is_ok()
+            }
+            Call::Allocate {
+                size,
+                answer,
+                id,
+                rectangle,
+            } => {
+                let outcome = allocate::allocate(
+                    &mut ours.words,
+                    &mut ours.generations,
+                    &mut ours.small,
+                    &mut ours.medium,
+                    &mut ours.large,
+                    &mut ours.head,
+                    size,
+                );
+                let given = taking::handed_over(outcome);
+                refusals::answer_of(outcome) == answer
+                    && given.id == id
+                    && given.rectangle == rectangle
+            }
+            Call::Deallocate(id) => {
+                let live = is_ticket(ours, id);
+                let done = deallocate::deallocate(
+                    &mut ours.words,
+                    &ours.generations,
+                    &mut ours.small,
+                    &mut ours.medium,
+                    &mut ours.large,
+                    &mut ours.head,
+                    id,
+                );
+                live && done.is_ok()
+            }
+            Call::Grow(size) => {
+                grow::grow(
+                    &mut ours.words,
+                    &mut ours.generations,
+                    &mut ours.small,
+                    &mut ours.medium,
+                    &mut ours.large,
+                    &mut ours.head,
+                    size,
+                )
+                .is_ok()
+            }
+            Call::Clear => {
+                starts::clear(
+                    &mut ours.words,
+                    &mut ours.generations,
+                    &mut ours.small,
+                    &mut ours.medium,
+                    &mut ours.large,
+                    &mut ours.head,
+                )
+                .is_ok()
+            }
+            Call::Reset(sheet, options) => {
+                starts::reset(
+                    &mut ours.words,
+                    &mut ours.generations,
+                    &mut ours.small,
+                    &mut ours.medium,
+                    &mut ours.large,
+                    &mut ours.head,
+                    sheet,
+                    options,
+                )
+                .is_ok()
+            }
         }
-        4 => done(grow::grow(words, generations, small, medium, large, head, size)),
-        _ => done(begin(line, words, generations, small, medium, large, head)),
     }
-}
-
-// Our tables become what the list told.
-fn copy_told(tables: &mut [[u32; 2048]; 8], generations: &mut [[u8; 256]; 2]) {
-    let words = tables[0];
-    let small = tables[1];
-    let medium = tables[2];
-    let large = tables[3];
-    let bytes = generations[0];
-    tables[4] = words;
-    tables[5] = small;
-    tables[6] = medium;
-    tables[7] = large;
-    generations[1] = bytes;
-}
-
-// The call of a line, on our tables as they stand.
-fn made_on(
-    line: &[u32; 128],
-    tables: &mut [[u32; 2048]; 8],
-    generations: &mut [[u8; 256]; 2],
-    head: Head,
-) -> Given {
-    let mut words = tables[4];
-    let mut small = tables[5];
-    let mut medium = tables[6];
-    let mut large = tables[7];
-    let mut bytes = generations[1];
-    let given = call(
-        line,
-        &mut words,
-        &mut bytes,
-        &mut small,
-        &mut medium,
-        &mut large,
-        head,
-    );
-    tables[4] = words;
-    tables[5] = small;
-    tables[6] = medium;
-    tables[7] = large;
-    generations[1] = bytes;
-    given
-}
-
-// What the call of a line gives: before is the head that the list told of before it, and last the one that our last call left.
-pub fn made(
-    line: &[u32; 128],
-    tables: &mut [[u32; 2048]; 8],
-    generations: &mut [[u8; 256]; 2],
-    before: Head,
-    last: Head,
-) -> Given {
-    if line[0] == 1 {
-        return made_on(line, tables, generations, last);
-    }
-    copy_told(tables, generations);
-    made_on(line, tables, generations, before)
 }

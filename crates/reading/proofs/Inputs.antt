@@ -1,13 +1,9 @@
--- An input that isn't read is read on by nothing, and what two reads took of it one could have taken.
-use Rattle.std.proofs.Common.{ℕ, List, [], ◌++◌, sym, ◌∙◌, ap, refl}
+-- What two reads took of an input one could have taken.
+use Rattle.std.proofs.Common.{ℕ, List, [], ◌++◌, sym, ◌∙◌, ap}
 use Rattle.std.specs.Prelude.{None, Some}
 use Rattle.std.specs.declared.option.Option.{Option}
 use Rattle.std.proofs.lemmas.List.{append_assoc}
 use Rattle.reading.specs.Inputs.{ReadsOn}
-
-pub unread : (a : Option (List ℕ)) → ReadsOn a a
-unread None = ([], tt)
-unread (Some xs) = ([], refl)
 
 pub read_twice : (a b c : Option (List ℕ)) → ReadsOn a b → ReadsOn b c → ReadsOn a c
 read_twice None b c p q = ([], tt)

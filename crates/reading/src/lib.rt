@@ -1,34 +1,32 @@
-// What the programs that are run on a stored list share: its lines, the numbers that stand on them, and the counts that are
-// written at the end.
+// The lines of an input, the numbers that stand on them, and what takes them one by one.
 #![tactic(auto)]
 
 mod lines;
 
-ghost use Rattle.std.specs.Prelude.{◌≡◌};
-ghost use Rattle.reading.specs.Bits.{signed};
+ghost use Rattle.std.specs.Prelude.{◌≡◌, OnErr};
 
-pub use lines::{Line, Reading, is_blank, next_line, unread};
-use std::io;
+pub use lines::{Input, Line};
+use std::io::{self, Read};
 
-// The i32 with these bits.
-pub fn signed(bits: u32) -> i32
-    ensures { result ≡ signed bits }
-{
-    if bits < 2147483648 {
-        return bits as i32;
-    }
-    -1 - ((4294967295 - bits) as i32)
+// What is kept from line to line.
+pub trait Taker {
+    // Takes the next line: whether there was one. An error is one of reading a line, and leaves what is kept.
+    fn take_next<R: Read + Drop>(
+        &mut self,
+        input: &mut Input<R>,
+        line: &mut Line,
+    ) -> io::Result<bool>
+        ensures { OnErr result (self.new ≡ self.old) };
 }
 
-// One more, but for the largest number, which stays.
-pub fn more(n: u64) -> u64 {
-    if n == u64::MAX {
-        return n;
+// Takes each line of an input. Nothing says that it ends, so the loop has more turns than any run takes.
+pub fn take_all<R: Read + Drop, T: Taker>(source: R, taker: &mut T) -> io::Result<()> {
+    let mut input = Input::new(source);
+    let mut line = Line::new();
+    for _ in 0..u64::MAX {
+        if !taker.take_next(&mut input, &mut line)? {
+            break;
+        }
     }
-    n + 1
-}
-
-// Writes words and a number on a line.
-pub fn say(rt: &impl Print, words: &str, number: u64) -> io::Result<()> {
-    println!(rt; "{words}{number}")
+    Ok(())
 }

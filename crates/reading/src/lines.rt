@@ -1,216 +1,180 @@
 // Lines of decimal numbers of an input, taken a byte at a time.
-ghost use Rattle.std.specs.Prelude.{◌≡◌, ◌≤◌, ◌<◌, IfOk, OnErr};
+ghost use Rattle.std.specs.Prelude.{◌≡◌, ◌≤◌, OnErr};
 ghost use Rattle.std.specs.Io.KnownBytes.{Keeps};
 ghost use Rattle.reading.specs.Inputs.{ReadsOn};
 
 use std::io::{self, Read};
 
-// A line as far as it is read: how many of its numbers are closed, the one that is open, and whether anything
-// on it was out of form.
+// A line as far as it is read: the numbers that are closed, the one that is open, and whether anything on it was out of form.
 #[derive(Clone, Copy)]
 pub struct Line {
-    pub count: usize,
-    pub open: bool,
-    pub value: u32,
-    pub bad: bool,
+    numbers: [u32; 128],
+    count: usize,
+    open: Option<u32>,
+    bad: bool,
+    ghost within: { count ≤ 128 },
 }
 
-// The input: the line that was read last, whether its end was reached, the bytes of the buffer that were read and not taken
-// yet, from at up to end, and whether the input came to its end.
-#[derive(Clone, Copy)]
-pub struct Reading {
-    pub line: Line,
-    pub whole: bool,
-    pub at: usize,
-    pub end: usize,
-    pub ended: bool,
+// A number with one more digit. It has no leading zero and fits a u32.
+fn with_digit(number: u32, digit: u32) -> Option<u32> {
+    if number == 0 {
+        return None;
+    }
+    number.checked_mul(10)?.checked_add(digit)
 }
 
-fn blank() -> Line {
-    Line {
-        count: 0,
-        open: false,
-        value: 0,
-        bad: false,
+impl Line {
+    pub fn new() -> Line {
+        Line {
+            numbers: [0; 128],
+            count: 0,
+            open: None,
+            bad: false,
+        }
     }
-}
 
-// Whether nothing of the line was read. After next_line that is so at the end of the input only.
-pub fn is_blank(line: Line) -> bool {
-    if line.count > 0 {
-        return false;
+    // The numbers on it, unless it is out of form.
+    pub fn numbers(&self) -> Option<&[u32]> {
+        if self.bad {
+            return None;
+        }
+        Some(&self.numbers[..self.count])
     }
-    if line.open {
-        return false;
-    }
-    !line.bad
-}
 
-// An input of which nothing was read yet.
-pub fn unread() -> Reading
-    ensures { result.end ≤ 65536 }
-{
-    Reading {
-        line: blank(),
-        whole: false,
-        at: 0,
-        end: 0,
-        ended: false,
+    // Whether nothing of it was read.
+    fn is_blank(&self) -> bool {
+        self.count == 0 && self.open.is_none() && !self.bad
     }
-}
 
-fn spoiled(line: Line) -> Line {
-    let mut after = line;
-    after.bad = true;
-    after
-}
+    // Forgets what was read of it.
+    fn clear(&mut self) {
+        self.count = 0;
+        self.open = None;
+        self.bad = false;
+    }
 
-// One more digit. A number has no leading zero and fits a u32.
-fn with_digit(line: Line, digit: u32) -> Line {
-    let mut after = line;
-    if !line.open {
-        after.open = true;
-        after.value = digit;
-        return after;
+    // Closes the open number: it goes behind the others.
+    fn close(&mut self) {
+        match self.open.take() {
+            Some(number) if self.count < 128 => {
+                self.numbers[self.count] = number;
+                self.count += 1;
+            }
+            _ => self.bad = true,
+        }
     }
-    if line.value == 0 {
-        return spoiled(line);
-    }
-    let sum = (line.value as u64) * 10 + (digit as u64);
-    if sum > 4294967295 {
-        return spoiled(line);
-    }
-    after.value = sum as u32;
-    after
-}
 
-// Closes the open number: it goes behind the numbers of the line.
-fn closed(numbers: &mut [u32; 128], line: Line) -> Line {
-    if !line.open {
-        return spoiled(line);
+    fn push_digit(&mut self, digit: u32) {
+        self.open = match self.open {
+            Some(number) => with_digit(number, digit),
+            None => Some(digit),
+        };
+        self.bad = self.bad || self.open.is_none();
     }
-    let at = line.count;
-    if at >= 128 {
-        return spoiled(line);
+
+    // One more byte, which does not end it.
+    fn push(&mut self, byte: u8) {
+        match byte {
+            b' ' => self.close(),
+            b'0'..=b'9' => self.push_digit(u32::from(byte - b'0')),
+            _ => self.bad = true,
+        }
     }
-    numbers[at] = line.value;
-    Line {
-        count: at + 1,
-        open: false,
-        value: 0,
-        bad: line.bad,
+
+    // At the end of the input a line without its newline is out of form.
+    fn cut_off(&mut self) {
+        self.bad = !self.is_blank();
     }
 }
 
-// The line after one more byte that does not end it.
-fn next(numbers: &mut [u32; 128], line: Line, byte: u8) -> Line {
-    if byte == b' ' {
-        return closed(numbers, line);
-    }
-    if byte < b'0' {
-        return spoiled(line);
-    }
-    if byte > b'9' {
-        return spoiled(line);
-    }
-    with_digit(line, (byte - b'0') as u32)
+// What is read from, the bytes of the buffer that were read and not taken yet, from at up to end, and whether the source came to
+// its end.
+#[derive(Drop)]
+pub struct Input<R: Read + Drop> {
+    source: R,
+    buffer: [u8; 65536],
+    at: usize,
+    end: usize,
+    ended: bool,
+    ghost within: { end ≤ 65536 },
 }
 
-// A last line without its newline is out of form.
-fn cut_off(line: Line) -> Line {
-    if is_blank(line) {
-        return line;
+impl<R: Read + Drop> Input<R> {
+    // An input of which nothing was read yet.
+    pub fn new(source: R) -> Input<R> {
+        Input {
+            source,
+            buffer: [0; 65536],
+            at: 0,
+            end: 0,
+            ended: false,
+        }
     }
-    spoiled(line)
-}
 
-// Reads on where every byte that was read is taken. An error is one read's: there was nothing left to take, and no byte of the
-// input is lost.
-fn filled<R: Read>(input: &mut R, buffer: &mut [u8; 65536], reading: Reading) -> io::Result<Reading>
-    requires { reading.end ≤ 65536 }
-    ensures ok { IfOk result (λ after. after.end ≤ 65536) }
-    ensures input { ReadsOn (R.remaining input.old) (R.remaining input.new) }
-    ensures err { OnErr result ((reading.end ≤ reading.at) × Keeps (R.remaining input.old) (R.remaining input.new)) }
-{
-    if reading.at < reading.end {
-        return Ok(reading);
+    // Reads on where every byte that was read is taken. An error is one read's: there was nothing left to take, and no byte of the
+    // source is lost.
+    fn fill(&mut self) -> io::Result<()>
+        ensures source { ReadsOn (R.remaining self.old.source) (R.remaining self.new.source) }
+        ensures err { OnErr result ((self.old.end ≤ self.old.at) × Keeps (R.remaining self.old.source) (R.remaining self.new.source)) }
+    {
+        if self.ended || self.at < self.end {
+            return Ok(());
+        }
+        self.end = self.source.read(&mut self.buffer)?;
+        self.at = 0;
+        self.ended = self.end == 0;
+        Ok(())
     }
-    let n = input.read(buffer)?;
-    let mut after = reading;
-    after.at = 0;
-    after.end = n;
-    Ok(after)
-}
 
-// Takes the next byte of the buffer.
-fn take_byte(numbers: &mut [u32; 128], buffer: &[u8; 65536], reading: Reading) -> Reading
-    requires { (reading.at < reading.end) × (reading.end ≤ 65536) }
-    ensures { result.end ≤ 65536 }
-{
-    let at = reading.at;
-    let line = reading.line;
-    let byte = buffer[at];
-    let mut after = reading;
-    after.at = at + 1;
-    if byte == b'\n' {
-        after.line = closed(numbers, line);
-        after.whole = true;
-        return after;
+    // Takes the next byte; there is none at the end. An error is one read's, as in fill.
+    fn next_byte(&mut self) -> io::Result<Option<u8>>
+        ensures source { ReadsOn (R.remaining self.old.source) (R.remaining self.new.source) }
+        ensures err { OnErr result ((self.old.end ≤ self.old.at) × Keeps (R.remaining self.old.source) (R.remaining self.new.source)) }
+    {
+        self.fill()?;
+        if self.at >= self.end {
+            return Ok(None);
+        }
+        let byte = self.buffer[self.at];
+        self.at += 1;
+        Ok(Some(byte))
     }
-    after.line = next(numbers, line, byte);
-    after
-}
 
-// Takes a byte, or sees that none is left. An error is one read's, as in filled, and leaves the numbers.
-fn advanced<R: Read>(
-    input: &mut R,
-    numbers: &mut [u32; 128],
-    buffer: &mut [u8; 65536],
-    reading: Reading,
-) -> io::Result<Reading>
-    requires { reading.end ≤ 65536 }
-    ensures ok { IfOk result (λ after. after.end ≤ 65536) }
-    ensures input { ReadsOn (R.remaining input.old) (R.remaining input.new) }
-    ensures err { OnErr result ((reading.end ≤ reading.at) × (numbers.new ≡ numbers.old)
-        × Keeps (R.remaining input.old) (R.remaining input.new)) }
-{
-    let ready = filled(input, buffer, reading)?;
-    if ready.at < ready.end {
-        return Ok(take_byte(numbers, buffer, ready));
+    // Takes the next byte onto a line, or sees that none is left: whether the line goes on. An error is one read's, as in fill, and
+    // leaves the line.
+    fn read_on(&mut self, line: &mut Line) -> io::Result<bool>
+        ensures source { ReadsOn (R.remaining self.old.source) (R.remaining self.new.source) }
+        ensures err { OnErr result ((self.old.end ≤ self.old.at) × (line.new ≡ line.old)
+            × Keeps (R.remaining self.old.source) (R.remaining self.new.source)) }
+    {
+        match self.next_byte()? {
+            Some(b'\n') => {
+                line.close();
+                Ok(false)
+            }
+            Some(byte) => {
+                line.push(byte);
+                Ok(true)
+            }
+            None => {
+                line.cut_off();
+                Ok(false)
+            }
+        }
     }
-    let mut after = ready;
-    after.line = cut_off(ready.line);
-    after.ended = true;
-    Ok(after)
-}
 
-fn is_open(reading: Reading) -> bool {
-    if reading.whole {
-        return false;
+    // Reads the next line: whether there was one. Nothing says that a line ends, so the loop has more turns than any run takes. An
+    // error is one read's; the numbers that the line had before it are on the line, and what the source has left goes on behind
+    // the bytes that were read.
+    pub fn next_line(&mut self, line: &mut Line) -> io::Result<bool>
+        ensures { ReadsOn (R.remaining self.old.source) (R.remaining self.new.source) }
+    {
+        line.clear();
+        for _ in 0..u64::MAX {
+            if !self.read_on(line)? {
+                return Ok(!line.is_blank());
+            }
+        }
+        Ok(true)
     }
-    !reading.ended
-}
-
-// Reads the next line, its numbers into numbers. Nothing says that a line ends, so the loop counts its turns down from a
-// number that no run uses up. An error is one read's; the numbers that the line had before it are in numbers, what the input has
-// left goes on behind the bytes that were read, and the buffer may hold others than the reading before it tells of.
-pub fn next_line<R: Read>(
-    input: &mut R,
-    numbers: &mut [u32; 128],
-    buffer: &mut [u8; 65536],
-    reading: Reading,
-) -> io::Result<Reading>
-    requires { reading.end ≤ 65536 }
-    ensures ok { IfOk result (λ after. after.end ≤ 65536) }
-    ensures input { ReadsOn (R.remaining input.old) (R.remaining input.new) }
-{
-    let mut now = reading;
-    now.line = blank();
-    now.whole = false;
-    let mut turns = u64::MAX;
-    while turns > 0 && is_open(now) {
-        now = advanced(input, numbers, buffer, now)?;
-        turns -= 1;
-    }
-    Ok(now)
 }
