@@ -49,6 +49,8 @@ struct Answer {
     len: usize,
 }
 
+// A function of its own in the machine too: put into its three callers its loop has too few registers.
+#[inline(never)]
 #[tactic(auto, unfolding(crate::specs::Choices::scan_bucket))]
 fn scan_bucket(words: &[u32], list: &mut [u32], len: usize, bucket: Bucket, q: Query) -> Answer
     requires { Ready words.now (bag list.old len) }

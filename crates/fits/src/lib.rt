@@ -64,7 +64,11 @@ fn beats(score: u64, shifted: u64, worst: bool) -> bool
         return false;
     }
     let new = shifted - SHIFT;
-    if worst { score < new } else { new < score }
+    // Two returns and no choice of a value, for the machine: so the loop is made once for each of the two.
+    if worst {
+        return score < new;
+    }
+    new < score
 }
 
 // What the entry of a Free rectangle does to the scan. A fit that is exact on one axis ends it.
