@@ -50,7 +50,10 @@ module _ {s : State} {k : ℕ} (c : Checked s k) (z : k ≡ 0) (size : Size) (t 
   pub leaves_5 : r ≡ Err TooLarge → AllocateCall size s (given 5 no_crop s)
   leaves_5 q = leaves_refused TooLarge q
 
-  pub leaves_rest : (e : Extent) → r ≡ Ok e → (a : Result Allocation Refusal) (u : State) → grant_by a u ≡ granted s e
-      → AllocateCall size s (given (answer_of a) (crop_of a) u)
+  pub leaves_rest : (e : Extent) → r ≡ Ok e → (g : Grant) → g ≡ granted s e → AllocateCall size s (leaves g)
   unfolding allocated_for
-  leaves_rest e q a u h = rw (left_by a u) (goes (grant_by a u) (rw q h))
+  leaves_rest e q g h = goes g (rw q h)
+
+  pub leaves_outcome : (e : Extent) → r ≡ Ok e → (a : Result Allocation Refusal) (u : State) → grant_by a u ≡ granted s e
+      → AllocateCall size s (given (answer_of a) (crop_of a) u)
+  leaves_outcome e q a u h = rw (left_by a u) (leaves_rest e q (grant_by a u) h)

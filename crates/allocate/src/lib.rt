@@ -12,7 +12,7 @@ use steps::Head;
 use taking::Allocation;
 
 // A rectangle for a requested size, with its ticket. A refusal for space or for slots leaves the lists as the search left them; any other changes nothing.
-#[tactic(auto, using(audit::proofs::AnswerLaws::answers_checked, refusals::proofs::RefusalLaws::refused_not_0, crate::specs::AllocateLaws::leaves_refused, crate::specs::AllocateLaws::leaves_rest))]
+#[tactic(auto, using(audit::proofs::AnswerLaws::answers_checked, refusals::proofs::RefusalLaws::refused_not_0, crate::specs::AllocateLaws::leaves_refused, crate::specs::AllocateLaws::leaves_outcome))]
 pub fn allocate(
     words: &mut [u32],
     generations: &mut [u8],

@@ -16,7 +16,7 @@ impl Found {
     pub fn new(audit: Result<(), Broken>, check: Result<(), Refusal>) -> Found {
         let (rule, place) = match audit {
             Ok(()) => (0, 0),
-            Err(broken) => (broken.rule as u32, broken.place),
+            Err(broken) => (judged::number_of(broken.rule), broken.place),
         };
         Found {
             rule,

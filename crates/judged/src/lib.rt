@@ -2,7 +2,7 @@
 #![tactic(auto)]
 
 ghost use Rattle.std.specs.Prelude.{◌≡◌, true};
-ghost use Rattle.judged.specs.Verdicts.{rule_of, place_of};
+ghost use Rattle.judged.specs.Verdicts.{rule_number, rule_of, place_of};
 ghost use Rattle.judged.specs.Judged.{is_whole, is_filled, whole, Prepared, Walked, Judged};
 
 use geometry::{Rectangle, Setup};
@@ -26,6 +26,13 @@ pub enum Rule {
     Lists = 6,
     // The last slot of the top chain has its place stored.
     Last = 7,
+}
+
+// The number of a rule.
+pub fn number_of(rule: Rule) -> u32
+    ensures { result ≡ rule_number rule }
+{
+    rule as u32
 }
 
 // What the check found: the lowest-numbered rule that is broken, and the lowest place that breaks it, 0 where no single place does.
