@@ -76,7 +76,7 @@ lesser_enough w h a b =
 
 -- One test of the shifted score asks of both sides.
 module _ (s : Scan) (r : Rectangle) (q : Query) (n : ℕ) (e : n ≡ shifted_score r q) where
-  short_passes : n < shift → weighed s r q ≡ passed s
+  pub short_passes : n < shift → weighed s r q ≡ passed s
   unfolding weighed shifted_score
   short_passes h =
       let f = lesser_short (width_of r) (height_of r) q.width q.height (rw e at h) in

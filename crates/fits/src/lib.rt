@@ -60,24 +60,27 @@ fn opening(worst: bool) -> u64
 fn beats(score: u64, shifted: u64, worst: bool) -> bool
     ensures { result ≡ beats score shifted worst }
 {
-    if shifted < SHIFT {
-        return false;
-    }
-    let new = shifted - SHIFT;
-    // Two returns and no choice of a value, for the machine: so the loop is made once for each of the two.
+    // Values and no branches, for the machine: where the greatest wins, many fit and few beat, in no order that it foresees. And two
+    // returns, so that the loop is made once for each of the two.
+    let fits = SHIFT <= shifted;
+    let new = shifted.wrapping_sub(SHIFT);
     if worst {
-        return score < new;
+        return fits & (score < new);
     }
-    new < score
+    fits & (new < score)
 }
 
 // What the entry of a Free rectangle does to the scan. A fit that is exact on one axis ends it.
-#[tactic(auto, using(crate::proofs::ScanLaws::beats_enough, crate::proofs::ScanLaws::exact_ends, crate::proofs::ScanLaws::beaten_kept, crate::proofs::ScanLaws::unbeaten_passed))]
+#[tactic(auto, using(crate::proofs::ScanLaws::short_passes, crate::proofs::ScanLaws::beats_enough, crate::proofs::ScanLaws::exact_ends, crate::proofs::ScanLaws::beaten_kept, crate::proofs::ScanLaws::unbeaten_passed))]
 fn weigh(s: Scan, r: Rectangle, q: Query) -> Scan
     requires { (r.x0 ≤ r.x1) × (r.y0 ≤ r.y1) × (s.at < s.len) × Open s q }
     ensures { result ≡ weighed s r q }
 {
     let shifted = shifted_score(r, q);
+    // For the machine: where the least wins, few fit, and that is asked by itself.
+    if !q.worst && shifted < SHIFT {
+        return Scan { at: s.at + 1, ..s };
+    }
     if shifted == SHIFT {
         return Scan {
             at: s.len,
