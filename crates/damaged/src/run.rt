@@ -49,14 +49,15 @@ impl Run {
 }
 
 impl Taker for Run {
-    fn take_next<R: Read + Drop>(
+    fn take_next<R: Read>(
         &mut self,
-        input: &mut Input<R>,
+        source: &mut R,
+        input: &mut Input,
         line: &mut Line,
     ) -> io::Result<bool>
         ensures { OnErr result (self.new ≡ self.old) }
     {
-        if !input.next_line(line)? {
+        if !input.next_line(source, line)? {
             return Ok(false);
         }
         self.take(line);

@@ -11,20 +11,23 @@ use std::io::{self, Read};
 // What is kept from line to line.
 pub trait Taker {
     // Takes the next line: whether there was one. An error is one of reading a line, and leaves what is kept.
-    fn take_next<R: Read + Drop>(
+    fn take_next<R: Read>(
         &mut self,
-        input: &mut Input<R>,
+        source: &mut R,
+        input: &mut Input,
         line: &mut Line,
     ) -> io::Result<bool>
         ensures { OnErr result (self.new ≡ self.old) };
 }
 
-// Takes each line of an input. Nothing says that it ends, so the loop has more turns than any run takes.
-pub fn take_all<R: Read + Drop, T: Taker>(source: R, taker: &mut T) -> io::Result<()> {
-    let mut input = Input::new(source);
+// Takes each line of a source. Nothing says that it ends, so the loop has more turns than any run takes.
+// A function of its own in the machine too: its buffer lies on the stack only while lines are read.
+#[inline(never)]
+pub fn take_all<R: Read, T: Taker>(source: &mut R, taker: &mut T) -> io::Result<()> {
+    let mut input = Input::new();
     let mut line = Line::new();
     for _ in 0..u64::MAX {
-        if !taker.take_next(&mut input, &mut line)? {
+        if !taker.take_next(source, &mut input, &mut line)? {
             break;
         }
     }

@@ -87,11 +87,10 @@ impl Line {
     }
 }
 
-// What is read from, the bytes of the buffer that were read and not taken yet, from at up to end, and whether the source came to
-// its end.
-#[derive(Drop)]
-pub struct Input<R: Read + Drop> {
-    source: R,
+// The bytes of the buffer that were read from a source and not taken yet, from at up to end, and whether the source came to its
+// end. The source is lent to each call, and is to be the same at all of them.
+#[derive(Clone, Copy)]
+pub struct Input {
     buffer: [u8; 65536],
     at: usize,
     end: usize,
@@ -99,11 +98,10 @@ pub struct Input<R: Read + Drop> {
     ghost within: { end ≤ 65536 },
 }
 
-impl<R: Read + Drop> Input<R> {
+impl Input {
     // An input of which nothing was read yet.
-    pub fn new(source: R) -> Input<R> {
+    pub fn new() -> Input {
         Input {
-            source,
             buffer: [0; 65536],
             at: 0,
             end: 0,
@@ -113,65 +111,57 @@ impl<R: Read + Drop> Input<R> {
 
     // Reads on where every byte that was read is taken. An error is one read's: there was nothing left to take, and no byte of the
     // source is lost.
-    fn fill(&mut self) -> io::Result<()>
-        ensures source { ReadsOn (R.remaining self.old.source) (R.remaining self.new.source) }
-        ensures err { OnErr result ((self.old.end ≤ self.old.at) × Keeps (R.remaining self.old.source) (R.remaining self.new.source)) }
+    fn fill<R: Read>(&mut self, source: &mut R) -> io::Result<()>
+        ensures source { ReadsOn (R.remaining source.old) (R.remaining source.new) }
+        ensures err { OnErr result ((self.old.end ≤ self.old.at) × Keeps (R.remaining source.old) (R.remaining source.new)) }
     {
         if self.ended || self.at < self.end {
             return Ok(());
         }
-        self.end = self.source.read(&mut self.buffer)?;
+        self.end = source.read(&mut self.buffer)?;
         self.at = 0;
         self.ended = self.end == 0;
         Ok(())
     }
 
-    // Takes the next byte; there is none at the end. An error is one read's, as in fill.
-    fn next_byte(&mut self) -> io::Result<Option<u8>>
-        ensures source { ReadsOn (R.remaining self.old.source) (R.remaining self.new.source) }
-        ensures err { OnErr result ((self.old.end ≤ self.old.at) × Keeps (R.remaining self.old.source) (R.remaining self.new.source)) }
-    {
-        self.fill()?;
-        if self.at >= self.end {
-            return Ok(None);
-        }
-        let byte = self.buffer[self.at];
-        self.at += 1;
-        Ok(Some(byte))
-    }
-
-    // Takes the next byte onto a line, or sees that none is left: whether the line goes on. An error is one read's, as in fill, and
-    // leaves the line.
-    fn read_on(&mut self, line: &mut Line) -> io::Result<bool>
-        ensures source { ReadsOn (R.remaining self.old.source) (R.remaining self.new.source) }
-        ensures err { OnErr result ((self.old.end ≤ self.old.at) × (line.new ≡ line.old)
-            × Keeps (R.remaining self.old.source) (R.remaining self.new.source)) }
-    {
-        match self.next_byte()? {
-            Some(b'\n') => {
+    // Takes the bytes that were read onto a line, up to one that ends it: whether the line goes on.
+    fn take_bytes(&mut self, line: &mut Line) -> bool {
+        for at in self.at..self.end {
+            self.at = at + 1;
+            let byte = self.buffer[at];
+            if byte == b'\n' {
                 line.close();
-                Ok(false)
+                return false;
             }
-            Some(byte) => {
-                line.push(byte);
-                Ok(true)
-            }
-            None => {
-                line.cut_off();
-                Ok(false)
-            }
+            line.push(byte);
         }
+        true
     }
 
-    // Reads the next line: whether there was one. Nothing says that a line ends, so the loop has more turns than any run takes. An
-    // error is one read's; the numbers that the line had before it are on the line, and what the source has left goes on behind
-    // the bytes that were read.
-    pub fn next_line(&mut self, line: &mut Line) -> io::Result<bool>
-        ensures { ReadsOn (R.remaining self.old.source) (R.remaining self.new.source) }
+    // Takes bytes onto a line, or sees that none is left: whether the line goes on. An error is one read's, as in fill, and leaves the
+    // line.
+    fn read_on<R: Read>(&mut self, source: &mut R, line: &mut Line) -> io::Result<bool>
+        ensures source { ReadsOn (R.remaining source.old) (R.remaining source.new) }
+        ensures err { OnErr result ((self.old.end ≤ self.old.at) × (line.new ≡ line.old)
+            × Keeps (R.remaining source.old) (R.remaining source.new)) }
+    {
+        self.fill(source)?;
+        if self.at >= self.end {
+            line.cut_off();
+            return Ok(false);
+        }
+        Ok(self.take_bytes(line))
+    }
+
+    // Reads the next line of a source: whether there was one. Nothing says that a line ends, so the loop has more turns than any run
+    // takes. An error is one read's; the numbers that the line had before it are on the line, and what the source has left goes on
+    // behind the bytes that were read.
+    pub fn next_line<R: Read>(&mut self, source: &mut R, line: &mut Line) -> io::Result<bool>
+        ensures { ReadsOn (R.remaining source.old) (R.remaining source.new) }
     {
         line.clear();
         for _ in 0..u64::MAX {
-            if !self.read_on(line)? {
+            if !self.read_on(source, line)? {
                 return Ok(!line.is_blank());
             }
         }

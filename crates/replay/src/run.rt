@@ -28,6 +28,8 @@ pub struct Replay {
 
 impl Replay {
     // What is kept before the first line. Our tables begin with numbers that a start has to write over.
+    // A function of its own in the machine too, as take_all is: what it makes the tables of doesn't lie on the stack when lines are read.
+    #[inline(never)]
     pub fn new() -> Replay {
         let none = Size {
             width: 0,
@@ -125,14 +127,15 @@ impl Replay {
 }
 
 impl Taker for Replay {
-    fn take_next<R: Read + Drop>(
+    fn take_next<R: Read>(
         &mut self,
-        input: &mut Input<R>,
+        source: &mut R,
+        input: &mut Input,
         line: &mut Line,
     ) -> io::Result<bool>
         ensures { OnErr result (self.new ≡ self.old) }
     {
-        if !input.next_line(line)? {
+        if !input.next_line(source, line)? {
             return Ok(false);
         }
         self.take(line);

@@ -3,4 +3,4 @@ use Rattle.reading.specs.Inputs.{ReadsOn}
 use Rattle.reading.proofs.lines.Input.next_line.Given as goal
 
 abbrev pub invariant-loop : goal.invariant-loop
-invariant-loop g l = ReadsOn (g.R.Read.remaining l.initial.self.source) (g.R.Read.remaining l.self.source)
+invariant-loop g l = ReadsOn (g.R.Read.remaining l.initial.source) (g.R.Read.remaining l.source)
