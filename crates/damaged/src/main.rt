@@ -14,6 +14,6 @@ use std::io;
 
 fn main(rt: HostRuntime) -> io::Result<()> {
     let mut run = Run::new();
-    reading::take_all(&mut rt.stdin(), &mut run)?;
+    reading::take_lent(&mut rt.stdin(), &mut run)?;
     print!(rt; "{}", run.counts)
 }

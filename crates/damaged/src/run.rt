@@ -4,7 +4,7 @@ ghost use Rattle.std.specs.Prelude.{◌≡◌, OnErr};
 use crate::record::Record;
 use crate::score::Counts;
 use crate::tables::Tables;
-use reading::{Input, Line, Taker};
+use reading::{LentTaker, Line, ReadAhead};
 use std::io::{self, Read};
 
 #[derive(Clone, Copy)]
@@ -48,11 +48,11 @@ impl Run {
     }
 }
 
-impl Taker for Run {
+impl LentTaker for Run {
     fn take_next<R: Read>(
         &mut self,
         source: &mut R,
-        input: &mut Input,
+        input: &mut ReadAhead,
         line: &mut Line,
     ) -> io::Result<bool>
         ensures { OnErr result (self.new ≡ self.old) }

@@ -90,7 +90,7 @@ impl Line {
 // The bytes of the buffer that were read from a source and not taken yet, from at up to end, and whether the source came to its
 // end. The source is lent to each call, and is to be the same at all of them.
 #[derive(Clone, Copy)]
-pub struct Input {
+pub struct ReadAhead {
     buffer: [u8; 65536],
     at: usize,
     end: usize,
@@ -98,10 +98,10 @@ pub struct Input {
     ghost within: { end ≤ 65536 },
 }
 
-impl Input {
-    // An input of which nothing was read yet.
-    pub fn new() -> Input {
-        Input {
+impl ReadAhead {
+    // Of a source of which nothing was read yet.
+    pub fn new() -> ReadAhead {
+        ReadAhead {
             buffer: [0; 65536],
             at: 0,
             end: 0,
@@ -166,5 +166,31 @@ impl Input {
             }
         }
         Ok(true)
+    }
+}
+
+// A source that is kept together with what was read of it and not taken: it is read by lines alone.
+#[derive(Drop)]
+pub struct Input<R: Read + Drop> {
+    source: R,
+    ahead: ReadAhead,
+}
+
+impl<R: Read + Drop> Input<R> {
+    // An input of which nothing was read yet.
+    pub fn new(source: R) -> Input<R>
+        ensures { result.source ≡ source }
+    {
+        Input {
+            source,
+            ahead: ReadAhead::new(),
+        }
+    }
+
+    // Reads the next line: whether there was one. An error is one read's, as for a source that is lent.
+    pub fn next_line(&mut self, line: &mut Line) -> io::Result<bool>
+        ensures { ReadsOn (R.remaining self.old.source) (R.remaining self.new.source) }
+    {
+        self.ahead.next_line(&mut self.source, line)
     }
 }

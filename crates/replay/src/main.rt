@@ -11,6 +11,6 @@ use std::io;
 
 fn main(rt: HostRuntime) -> io::Result<()> {
     let mut replay = Replay::new();
-    reading::take_all(&mut rt.stdin(), &mut replay)?;
+    reading::take_lent(&mut rt.stdin(), &mut replay)?;
     print!(rt; "{}", replay.counts)
 }

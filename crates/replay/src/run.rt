@@ -5,7 +5,7 @@ ghost use Rattle.std.specs.Prelude.{◌≡◌, OnErr};
 use crate::record::Record;
 use calls::Call;
 use geometry::{AllocatorOptions, Size};
-use reading::{Input, Line, Taker};
+use reading::{LentTaker, Line, ReadAhead};
 use std::io::{self, Read};
 use tally::{Counts, Place, Verdict};
 use told::{Change, State};
@@ -28,7 +28,7 @@ pub struct Replay {
 
 impl Replay {
     // What is kept before the first line. Our tables begin with numbers that a start has to write over.
-    // A function of its own in the machine too, as take_all is: what it makes the tables of doesn't lie on the stack when lines are read.
+    // A function of its own in the machine too, as take_lent is: what it makes the tables of doesn't lie on the stack when lines are read.
     #[inline(never)]
     pub fn new() -> Replay {
         let none = Size {
@@ -126,11 +126,11 @@ impl Replay {
     }
 }
 
-impl Taker for Replay {
+impl LentTaker for Replay {
     fn take_next<R: Read>(
         &mut self,
         source: &mut R,
-        input: &mut Input,
+        input: &mut ReadAhead,
         line: &mut Line,
     ) -> io::Result<bool>
         ensures { OnErr result (self.new ≡ self.old) }
