@@ -32,7 +32,7 @@ pub trait LentTaker {
         ensures { OnErr result (self.new ≡ self.old) };
 }
 
-// Takes each line of a source that is given. Nothing says that it ends, so the loop has more turns than any run takes.
+// Takes each line of a source that is given, as take_lent does of one that is lent.
 pub fn take_all<R: Read + Drop, T: Taker>(source: R, taker: &mut T) -> io::Result<()> {
     let mut input = Input::new(source);
     let mut line = Line::new();

@@ -13,15 +13,18 @@ use std::io::{self, Read};
 #[derive(Clone, Copy, Debug, PartialEq, Eq)]
 pub struct Sums {
     pub lines: u64,
-    pub bad: u64,
+    pub faults: u64,
     pub sum: u64,
 }
 
 impl Sums {
-    pub fn new() -> Sums {
+    // Of a list of which nothing was taken yet.
+    pub fn new() -> Sums
+        ensures { (result.lines ≡ 0) × (result.faults ≡ 0) × (result.sum ≡ 0) }
+    {
         Sums {
             lines: 0,
-            bad: 0,
+            faults: 0,
             sum: 0,
         }
     }
@@ -34,7 +37,7 @@ impl Sums {
                     self.sum = self.sum.wrapping_add(u64::from(number));
                 }
             }
-            None => self.bad = self.bad.wrapping_add(1),
+            None => self.faults = self.faults.wrapping_add(1),
         }
     }
 }

@@ -21,14 +21,14 @@ impl<'a> Read for Failing<'a> {
 
 #[test]
 fn an_input_reads_what_a_lent_source_reads(rt: HostRuntime) -> Result<(), Fail> {
-    for (list, lines, bad, sum) in [
+    for (list, lines, faults, sum) in [
         (b"".as_slice(), 0, 0, 0),
         (b"1 2\n30\n", 2, 0, 33),
         (b"1 2\n30", 2, 1, 3),
         (b"4294967295\n4294967296\n", 2, 1, 4294967295),
         (b"x\n\n5\n", 3, 2, 5),
     ] {
-        let want = Sums { lines, bad, sum };
+        let want = Sums { lines, faults, sum };
         let mut kept = Sums::new();
         take_all(list, &mut kept)?;
         assert_eq!(rt; kept, want);
@@ -52,7 +52,7 @@ fn a_failed_read_leaves_what_was_taken(rt: HostRuntime) -> Result<(), Fail> {
         sums,
         Sums {
             lines: 2,
-            bad: 0,
+            faults: 0,
             sum: 33
         }
     );
